@@ -1,0 +1,4 @@
+pub mod Shapes
+pub mod Runs
+pub mod Paths
+pub mod Sound

@@ -1,0 +1,2 @@
+// Programs of lending tasks: statements, tasks, and the programs made of them.
+pub mod statement;

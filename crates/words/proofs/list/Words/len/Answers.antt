@@ -1,0 +1,6 @@
+use mathlib.Core.Path.{sym}
+use Rattle.words.proofs.Kept.{length-items}
+use Rattle.words.proofs.list.Words.len.Needs as need
+
+pub returns : need.returns
+returns g c = sym (length-items (c .args .self .now))
