@@ -2,3 +2,5 @@ pub mod Shapes
 pub mod Runs
 pub mod Paths
 pub mod Sound
+pub mod Spans
+pub mod Drafts

@@ -1,2 +1,4 @@
-// Programs of lending tasks: statements, tasks, and the programs made of them.
+// Programs of lending tasks: their statements, and how a program is made of them.
+pub mod draft;
+pub mod span;
 pub mod statement;

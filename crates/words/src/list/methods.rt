@@ -1,6 +1,7 @@
 // What a list of words answers and how it grows.
 ghost use mathlib.Core.Path.{_≡_};
 ghost use mathlib.Core.List.{[]};
+ghost use Prim.Native.Nat.{_≤_};
 ghost use lib.ListN.{length, getD, set};
 ghost use lib.Dec.{ltb};
 ghost use Rattle.std.specs.Results.{isOk};
@@ -24,7 +25,8 @@ impl<const N: usize> Words<N> {
 
     // How many words there are.
     pub fn len(&self) -> usize
-        ensures { λ r. ⌜ r ≡ length (items (now (self .entry))) ⌝ }
+        ensures value { λ r. ⌜ r ≡ length (items (now (self .entry))) ⌝ }
+        ensures bound { λ r. ⌜ r ≤ N ⌝ }
     {
         self.count
     }
