@@ -4,8 +4,8 @@ use mathlib.Core.Path.{_≡_, refl, sym, _∙_, ap, ap₂}
 use Prim.Native.Nat.{ℕ, zero, suc, _+_, _-_, _<_, _≤_}
 use native.Mathlib.Omega.{arith}
 use lib.ListN.{length, getD, set, take, drop, length-map}
-use lib.Seq.{length-take-le}
-use Rattle.std.proofs.shelf.Lists.{take-more, map-push, length-push}
+use lib.Seq.{length-take-le, getD-take}
+use Rattle.std.proofs.shelf.Lists.{take-more, map-push, getD-map}
 use Rattle.program.specs.declared.span.Span.{Span}
 use Rattle.program.specs.declared.draft.Draft.{Draft}
 use Rattle.program.specs.declared.statement.Statement.{Statement}
@@ -42,6 +42,22 @@ module _ (d : Draft) where
       let few = d .few in
       let full = d .full in
       total-parts (d .table) (take (d .tasks) (d .spans)) (all-end (d .spans) (d .tasks) (d .count) (d .inside) (length (d .table)) (d .tasks) (omega arith) (omega arith) (omega arith)) ∙ d .whole
+
+-- the statements of task t
+module _ (d : Draft) (t : ℕ) (z : Span) (h : t < d .tasks) where
+  pub task-here : getD (source-of d .tasks) t [] ≡ part (d .table) (getD (d .spans) t z)
+  task-here =
+      let few = d .few in
+      let full = d .full in
+      let long = length-take-le (d .tasks) (d .spans) (omega arith) in
+      getD-map (part (d .table)) (take (d .tasks) (d .spans)) t z [] (omega arith) ∙ ap (part (d .table)) (getD-take (d .tasks) (d .spans) t z h)
+
+  pub task-length : length (getD (source-of d .tasks) t []) ≡ getD (d .spans) t z .size
+  task-length =
+      let few = d .few in
+      let full = d .full in
+      let end = d .inside t z h in
+      ap length task-here ∙ length-part (d .table) (getD (d .spans) t z) (omega arith)
 
 -- Where there is a task, the last one stands at k.
 module _ (d : Draft) (k : ℕ) (e : d .tasks ≡ k + 1) (z : Span) where

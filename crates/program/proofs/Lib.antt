@@ -1,2 +1,4 @@
+pub mod Programs
 pub mod Spans
+pub mod Checks
 pub mod Drafts

@@ -4,3 +4,4 @@ pub mod Paths
 pub mod Sound
 pub mod Spans
 pub mod Drafts
+pub mod Programs

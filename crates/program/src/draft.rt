@@ -8,6 +8,7 @@ use crate::statement::Statement;
 use words::list::Words;
 
 pub mod build;
+mod read;
 
 #[derive(Clone, Copy)]
 pub struct Draft {

@@ -1,4 +1,6 @@
 // Programs of lending tasks: their statements, and how a program is made of them.
+mod check;
 pub mod draft;
+pub mod program;
 pub mod span;
 pub mod statement;

@@ -1,0 +1,5 @@
+use Rattle.laws.proofs.Examples.{examples-hold}
+use Rattle.laws.proofs.examples_hold.Needs as need
+
+pub returns : need.returns
+returns c = examples-hold

@@ -1,0 +1,5 @@
+use Rattle.laws.proofs.Paths.{paths-short}
+use Rattle.laws.proofs.paths_short_stands.Needs as need
+
+pub returns : need.returns
+returns c = paths-short

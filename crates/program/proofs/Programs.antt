@@ -1,0 +1,42 @@
+-- From the checks of the tasks to a well-formed program, and back.
+use mathlib.Core.List.{List, [], _∷_}
+use mathlib.Core.Bool.{Bool, true, _&&_}
+use mathlib.Core.Path.{_≡_, refl, sym, _∙_, ap}
+use Prim.Native.Nat.{ℕ, zero, suc, _+_, _<_, _≤_}
+use native.Mathlib.Omega.{arith}
+use lib.Dec.{leb, ltb}
+use lib.ListN.{length, getD}
+use Rattle.std.proofs.shelf.Tests.{and-from, and-parts, le-leb, lt-ltb, leb-true, ltb-true}
+use Rattle.words.proofs.Kept.{length-items}
+use Rattle.program.specs.declared.draft.Draft.{Draft}
+use Rattle.program.specs.declared.statement.Statement.{Statement}
+use Rattle.program.specs.Shapes.{every}
+use Rattle.program.specs.Sound.{Source, sound, counts-sound, task-sound, total}
+use Rattle.program.specs.Drafts.{source-of}
+use Rattle.program.specs.Programs.{sound-at}
+use Rattle.program.proofs.Drafts.{tasks-count, total-count}
+
+pub every-from : {A : Type 0} (p : A → Bool) (xs : List A) (d : A) → ((i : ℕ) → i < length xs → p (getD xs i d) ≡ true) → every p xs ≡ true
+every-from p [] d h = refl
+every-from p (x ∷ xs) d h = and-from _ _ (h 0 (omega arith)) (every-from p xs d (λ i l. h (suc i) (omega arith)))
+
+pub every-at : {A : Type 0} (p : A → Bool) (xs : List A) (d : A) (i : ℕ) → i < length xs → every p xs ≡ true → p (getD xs i d) ≡ true
+every-at p [] d i h e = absurd (omega arith)
+every-at p (x ∷ xs) d zero h e = and-parts (p x) (every p xs) e .0
+every-at p (x ∷ xs) d (suc i) h e = every-at p xs d i (omega arith) (and-parts (p x) (every p xs) e .1)
+
+pub counts-checked : (d : Draft) → 0 < d .tasks → counts-sound (source-of d) ≡ true
+counts-checked d some =
+    let few = d .few in
+    let variables = length-items (d .firsts) in
+    let within = d .firsts .within in
+    let tasks = tasks-count d in
+    let all = total-count d in
+    let p : Source = source-of d in
+    and-from _ _ (and-from _ _ (le-leb (length (p .firsts)) 48 (omega arith)) (le-leb (p .locals) 8 (omega arith)))
+    (and-from _ _ (and-from _ _ (lt-ltb 0 (length (p .tasks)) (omega arith)) (le-leb (length (p .tasks)) 16 (omega arith))) (le-leb (total (p .tasks)) 256 (omega arith)))
+
+pub all-checked : (d : Draft) → 0 < d .tasks → ((u : ℕ) → u < d .tasks → sound-at (source-of d) u) → sound (source-of d) ≡ true
+all-checked d some each =
+    let tasks = tasks-count d in
+    and-from _ _ (counts-checked d some) (every-from _ (source-of d .tasks) [] (λ u h. each u (omega arith)))
