@@ -51,7 +51,7 @@ keeps-unwritten zero (s ∷ rest) σ =
       words = λ v h. let p = or-parts (writes s v) _ h in on .words v (p .1) ∙ here .words v (p .0);
     }
 
-emitted-after : (s : Statement) (σ : Run) → length (after s σ .emitted) ≡ length (σ .emitted) + emits s
+pub emitted-after : (s : Statement) (σ : Run) → length (after s σ .emitted) ≡ length (σ .emitted) + emits s
 emitted-after Statement.Stop σ = omega arith
 emitted-after (Statement.Set (Target.Variable u) a o b) σ = omega arith
 emitted-after (Statement.Set (Target.Local l) a o b) σ = omega arith

@@ -11,6 +11,7 @@ use lib.ListN.{length, getD, set, drop, replicate, length-drop}
 use lib.Seq.{drop-drop, getD-set-same, getD-set-other}
 use Rattle.std.proofs.shelf.Tests.{cases-eq}
 use Rattle.std.proofs.shelf.Lists.{at-drop-more, drop-all}
+use Rattle.words.proofs.Kept.{zeros}
 use Rattle.program.specs.declared.statement.Statement.{Statement}
 use Rattle.std.proofs.shelf.Ways.{tells}
 use Rattle.std.specs.Joined.{joined}
@@ -135,11 +136,6 @@ module _ (task : List Statement) (i : ℕ) (s : Statement) (within : i < length 
             ap (λ k. getD (set table i x) k 0) q ∙ getD-set-same table i x 0 room ∙ new ∙ ap (λ k. most 0 (drop k task)) (sym q)
         | inr q ↦ getD-set-other table i j x 0 q ∙ behind j (omega arith)
       ]
-
-zeros : (n j : ℕ) → _≡_ {A = ℕ} (getD (replicate n 0) j 0) 0
-zeros zero j = refl
-zeros (suc n) zero = refl
-zeros (suc n) (suc j) = zeros n j
 
 -- behind the task nothing is added
 pub none-left : (task : List Statement) (j : ℕ) → length task ≤ j → getD (replicate 80 0) j 0 ≡ most 0 (drop j task)

@@ -1,3 +1,4 @@
+pub mod Indices
 pub mod Programs
 pub mod Spans
 pub mod Checks

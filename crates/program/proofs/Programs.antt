@@ -2,18 +2,22 @@
 use mathlib.Core.List.{List, [], _∷_}
 use mathlib.Core.Bool.{Bool, true, _&&_}
 use mathlib.Core.Path.{_≡_, refl, sym, _∙_, ap}
+use mathlib.Core.Logic.{_⊎_, inl, inr}
 use Prim.Native.Nat.{ℕ, zero, suc, _+_, _<_, _≤_}
 use native.Mathlib.Omega.{arith}
 use lib.Dec.{leb, ltb}
 use lib.ListN.{length, getD}
-use Rattle.std.proofs.shelf.Tests.{and-from, and-parts, le-leb, lt-ltb, leb-true, ltb-true}
+use Rattle.std.proofs.shelf.Lists.{getD-past}
+use Rattle.std.proofs.shelf.Tests.{and-from, and-parts, le-leb, lt-ltb, leb-true, cases-lt}
 use Rattle.words.proofs.Kept.{length-items}
 use Rattle.program.specs.declared.draft.Draft.{Draft}
+use Rattle.program.specs.declared.program.Program.{Program}
 use Rattle.program.specs.declared.statement.Statement.{Statement}
 use Rattle.program.specs.Shapes.{every}
-use Rattle.program.specs.Sound.{Source, sound, counts-sound, task-sound, total}
+use Rattle.program.specs.Paths.{paths, _∈_, emitted-on}
+use Rattle.program.specs.Sound.{Source, sound, counts-sound, all-placed, few-emits, task-sound, total}
 use Rattle.program.specs.Drafts.{source-of}
-use Rattle.program.specs.Programs.{sound-at}
+use Rattle.program.specs.Programs.{program-source, task-of, sound-at}
 use Rattle.program.proofs.Drafts.{tasks-count, total-count}
 
 pub every-from : {A : Type 0} (p : A → Bool) (xs : List A) (d : A) → ((i : ℕ) → i < length xs → p (getD xs i d) ≡ true) → every p xs ≡ true
@@ -40,3 +44,39 @@ pub all-checked : (d : Draft) → 0 < d .tasks → ((u : ℕ) → u < d .tasks �
 all-checked d some each =
     let tasks = tasks-count d in
     and-from _ _ (counts-checked d some) (every-from _ (source-of d .tasks) [] (λ u h. each u (omega arith)))
+
+-- What a program keeps to
+
+-- of a task that is there, its check; of any other, that it has no statements
+task-cases : (p : Program) (t : ℕ) → (sound-at (program-source p) t) ⊎ (task-of (program-source p) t ≡ [])
+task-cases p t =
+    elim (cases-lt t (length (program-source p .tasks))) [
+      | inl h ↦ inl (every-at _ (program-source p .tasks) [] t h (and-parts (counts-sound (program-source p)) _ (p .checked) .1))
+      | inr h ↦ inr (getD-past (program-source p .tasks) t [] h)
+    ]
+
+-- at most 64 statements
+pub task-short : (p : Program) (t : ℕ) → length (task-of (program-source p) t) ≤ 64
+task-short p t =
+    let task : List Statement = task-of (program-source p) t in
+    elim (task-cases p t) [
+      | inl h ↦ leb-true (length task) 64 (and-parts (ltb 0 (length task)) _ (and-parts (ltb 0 (length task) && leb (length task) 64) _ h .0) .1)
+      | inr e ↦ rw e (omega arith)
+    ]
+
+task-few : (p : Program) (t : ℕ) → few-emits (task-of (program-source p) t) ≡ true
+task-few p t =
+    let task : List Statement = task-of (program-source p) t in
+    elim (task-cases p t) [
+      | inl h ↦ and-parts (all-placed _ _ _ task) (few-emits task) (and-parts (ltb 0 (length task) && leb (length task) 64) _ h .1) .1
+      | inr e ↦ ap few-emits e
+    ]
+
+every-in : {A : Type 0} (p : A → Bool) (xs : List A) (x : A) → x ∈ xs → every p xs ≡ true → p x ≡ true
+every-in p [] x h e = absurd h
+every-in p (y ∷ xs) x (inl q) e = ap p q ∙ and-parts (p y) (every p xs) e .0
+every-in p (y ∷ xs) x (inr h) e = every-in p xs x h (and-parts (p y) (every p xs) e .1)
+
+-- no path adds more than eight words to the record
+pub path-few : (p : Program) (t : ℕ) (π : List Statement) → π ∈ paths 0 (task-of (program-source p) t) → emitted-on π ≤ 8
+path-few p t π h = leb-true (emitted-on π) 8 (every-in (λ ρ. leb (emitted-on ρ) 8) _ π h (task-few p t))

@@ -2,10 +2,10 @@
 use mathlib.Core.List.{List, _∷_, [], _++_}
 use mathlib.Core.Bool.{true, false, cond}
 use mathlib.Core.Path.{_≡_, refl, sym, _∙_, ap}
-use Prim.Native.Nat.{ℕ, _+_, _≤_, _<_}
+use Prim.Native.Nat.{ℕ, zero, suc, _+_, _≤_, _<_}
 use native.Mathlib.Omega.{arith}
 use lib.Dec.{ltb}
-use lib.ListN.{length, getD, set, take}
+use lib.ListN.{length, getD, set, take, replicate}
 use lib.Seq.{length-take-le}
 use Rattle.std.proofs.shelf.Lists.{getD-past, set-past, take-more-set}
 use Rattle.std.proofs.shelf.Tests.{lt-ltb, le-ltb}
@@ -35,3 +35,9 @@ module _ {N : ℕ} (w : Words N) where
   push-room x h =
       let e = w .full in
       take-more-set (w .words) (w .count) x (omega arith) ∙ sym (ap (λ b. cond b (items w ++ x ∷ []) (items w)) (room h))
+
+-- every word of a list of zeros, and past it
+pub zeros : (n j : ℕ) → _≡_ {A = ℕ} (getD (replicate n 0) j 0) 0
+zeros zero j = refl
+zeros (suc n) zero = refl
+zeros (suc n) (suc j) = zeros n j

@@ -1,0 +1,4 @@
+pub mod Frames
+pub mod Plain
+pub mod Steps
+pub mod Machines

@@ -1,0 +1,4 @@
+// The plain lending machine: it runs programs and never loses power.
+mod frame;
+pub mod machine;
+pub mod visit;
