@@ -1,3 +1,4 @@
+pub mod Series
 pub mod Pages
 pub mod Steps
 pub mod Visits

@@ -2,3 +2,4 @@ pub mod Frames
 pub mod Plain
 pub mod Steps
 pub mod Machines
+pub mod Series

@@ -4,6 +4,7 @@ use program::statement::Next;
 use words::list::Words;
 
 pub mod pages;
+pub mod replay;
 pub mod visits;
 
 #[derive(Clone, Copy)]

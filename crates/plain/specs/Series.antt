@@ -1,0 +1,29 @@
+-- What holds of the plain machine over any number of visits.
+use mathlib.Core.List.{List, []}
+use mathlib.Core.Path.{_≡_}
+use Prim.Native.Nat.{ℕ, _+_, _<_}
+use lib.ListN.{length, getD}
+use Rattle.program.specs.declared.statement.Index.{Index}
+use Rattle.program.specs.declared.statement.Next.{Next}
+use Rattle.program.specs.Sound.{Source}
+use Rattle.plain.specs.Plain.{Plain, visits, page, plain-page}
+
+-- the rows of a list, one a visit
+abbrev pub row-at : List (List ℕ) → ℕ → List ℕ
+row-at rows k = getD rows k []
+
+-- As long as the machine has not stopped, its visit number is the number of visits.
+abbrev pub Numbers-visits : Type 0
+Numbers-visits = (p : Source) (rows : ℕ → List ℕ) (n : ℕ) (t : Index 16) → visits p rows n .next ≡ Next.Task t → visits p rows n .number ≡ n
+
+-- The first n visits look at the first n rows alone.
+abbrev pub Rows-below : Type 0
+Rows-below = (p : Source) (rows others : ℕ → List ℕ) (n : ℕ) → ((k : ℕ) → k < n → rows k ≡ others k) → plain-page p rows n ≡ plain-page p others n
+
+-- Two pages that are equal have one visit number.
+abbrev pub Page-tells-number : Type 0
+Page-tells-number = (m o : Plain) → page m ≡ page o → m .number ≡ o .number
+
+-- The variables are as many as the program declares, so that a page has 12 words more.
+abbrev pub Page-length : Type 0
+Page-length = (p : Source) (rows : ℕ → List ℕ) (n : ℕ) → length (plain-page p rows n) ≡ 12 + length (p .firsts)

@@ -1,0 +1,24 @@
+// The machine after a whole series of visits.
+ghost use mathlib.Core.Path.{_≡_};
+ghost use Prim.Native.Nat.{min};
+ghost use lib.ListN.{length};
+ghost use Rattle.program.specs.Programs.{program-source};
+ghost use Rattle.plain.specs.Plain.{visits};
+ghost use Rattle.plain.specs.Series.{row-at};
+ghost use Rattle.plain.specs.Machines.{plain-of};
+use crate::machine::Machine;
+use program::program::Program;
+
+impl<'p> Machine<'p> {
+    // The machine after a visit for each row. There are at most 4,294,967,295 visits, and none after a stop.
+    pub fn replay(program: &'p Program, rows: &[[u16; 8]]) -> Machine<'p>
+        ensures rules { λ r. ⌜ now (r .program) ≡ now (program .entry) ⌝ }
+        ensures value { λ r. ⌜ plain-of r ≡ visits (program-source (now (program .entry))) (row-at (now (rows .entry))) (min (length (now (rows .entry))) 4294967295) ⌝ }
+    {
+        let mut machine = Machine::new(program);
+        for row in rows {
+            let _ = machine.visit(row);
+        }
+        machine
+    }
+}
