@@ -4,7 +4,7 @@ ghost use Prim.Native.Nat.{_<_, _≤_};
 ghost use Rattle.std.specs.Options.{Cases};
 
 // One of at most N things of a kind, by its number in the order of their declarations.
-#[derive(Clone, Copy)]
+#[derive(Clone, Copy, PartialEq, Eq, Debug)]
 pub struct Index<const N: u8> {
     number: u8,
     ghost known: { number < N },
@@ -129,7 +129,7 @@ pub enum Statement {
 }
 
 // What comes at the next visit: a task, or nothing after a stop.
-#[derive(Clone, Copy)]
+#[derive(Clone, Copy, PartialEq, Eq, Debug)]
 pub enum Next {
     Task(Task),
     Stopped,

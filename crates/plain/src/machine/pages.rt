@@ -10,7 +10,7 @@ use program::statement::Next;
 use words::list::Words;
 
 // The buffer has not as many words as the page.
-#[derive(Clone, Copy)]
+#[derive(Clone, Copy, PartialEq, Eq, Debug)]
 pub struct WrongLength;
 
 impl<'p> Machine<'p> {

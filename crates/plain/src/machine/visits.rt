@@ -11,7 +11,7 @@ use program::statement::Task;
 use words::list::Words;
 
 // Why there is no visit.
-#[derive(Clone, Copy)]
+#[derive(Clone, Copy, PartialEq, Eq, Debug)]
 pub enum Refusal {
     // an ending stopped the program
     Stopped,

@@ -4,6 +4,8 @@ ghost use lib.ListN.{length};
 ghost use Rattle.program.specs.Drafts.{source-of, blank, with-variable, with-local, with-task, Adds, Taken};
 use crate::draft::Draft;
 use crate::span::Span;
+use crate::statement::IndexDebug;
+use crate::statement::IndexPartialEq;
 use crate::statement::Local;
 use crate::statement::Statement;
 use crate::statement::Task;
@@ -11,7 +13,7 @@ use crate::statement::Variable;
 use words::list::Words;
 
 // Why a draft takes nothing more, or is no program.
-#[derive(Clone, Copy)]
+#[derive(Clone, Copy, PartialEq, Eq, Debug)]
 pub enum Flaw {
     // a 49th variable
     Variables,

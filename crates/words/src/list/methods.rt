@@ -9,7 +9,7 @@ ghost use Rattle.words.specs.Lists.{items, pushed};
 use crate::list::Words;
 
 // The list holds as many words as it can.
-#[derive(Clone, Copy)]
+#[derive(Clone, Copy, PartialEq, Eq, Debug)]
 pub struct Full;
 
 impl<const N: usize> Words<N> {
