@@ -5,7 +5,6 @@ use std::alloc::AllocError;
 use std::alloc::Global;
 use std::error::AnyError;
 use std::io;
-use words::list::Words;
 
 mod rule;
 mod tell;
@@ -62,19 +61,10 @@ fn run(rt: &LibcRuntime) -> Result<(), AnyError> {
     show(rt, &machine)
 }
 
-// The words of a record with blanks between them.
-fn record_text(heap: Global, record: &Words<8>) -> Result<String, AllocError> {
-    let mut words = Vec::new(heap);
-    for place in 0..record.len() {
-        words.push(record.get(place))?;
-    }
-    spaced(heap, words.as_slice())
-}
-
 // The record and the page.
 fn show(rt: &LibcRuntime, machine: &Machine<'_>) -> Result<(), AnyError> {
     let heap = rt.alloc();
-    let text = record_text(heap, &machine.last_record())?;
+    let text = spaced(heap, machine.last_record().as_slice())?;
     println!(rt, "Record: {text}")?;
     let mut page = [0u16; 14];
     let Ok(()) = machine.page(&mut page) else {

@@ -77,7 +77,7 @@ fn target_parts(target: Target) -> (&'static str, Operand) {
 }
 
 // The statement that comes, with what it reads and writes.
-pub fn statement(
+pub(crate) fn statement(
     heap: Global,
     statement: Statement,
     visit: &Visit<'_>,

@@ -16,12 +16,11 @@ use Rattle.std.proofs.shelf.Tests.{cases-lt, eq-eqb, ne-eqb, true≢false, fals
 use Rattle.program.specs.declared.statement.Index.{Index}
 use Rattle.program.specs.declared.statement.Next.{Next}
 use Rattle.program.specs.declared.statement.Statement.{Statement}
-use Rattle.program.specs.Runs.{Run}
 use Rattle.program.specs.Sound.{Source}
 use Rattle.plain.specs.declared.machine.visits.Refusal.{Refusal}
-use Rattle.plain.specs.Plain.{Plain, left-by, after-visit, visits}
+use Rattle.plain.specs.Plain.{Plain, after-visit, visits}
 use Rattle.plain.specs.Steps.{Standing, coming, step-by, stepped, ends}
-use Rattle.plain.specs.Machines.{visit-refusal, at-begin, Visited}
+use Rattle.plain.specs.Machines.{visit-refusal, Visited}
 use Rattle.plain.proofs.Series.{numbers-visits}
 use Rattle.plain.proofs.Steps.{ends-on, ends-here}
 
@@ -37,20 +36,13 @@ module _ (p q : Standing) (e : q ≡ stepped p) where
       ends-here p (sym here) ∙ sym (ap (λ (r : Standing). r .run) (e ∙ ap (step-by p) (sym here)))
 
 -- a visit that is not refused
-module _ (p : Source) (row : List ℕ) (number : ℕ) where
-  pub below-last : (next : Next) (emitted variables : List ℕ) → visit-refusal (record { number = number; next = next; emitted = emitted; variables = variables }) ≡ None
-      → number ≡ 4294967295 → ⊥
-  below-last (Next.Task t) emitted variables free last =
-      let z : _≡_ {A = Option Refusal} (Some Refusal.LastNumber) None = sym (ap (λ b. cond b (Some Refusal.LastNumber) None) (eq-eqb number 4294967295 last)) ∙ free in
-      let y : _≡_ {A = ℕ} 0 1 = cc in
-      omega arith
-  below-last Next.Stopped emitted variables free last = let y : _≡_ {A = ℕ} 0 1 = cc in omega arith
-
-  pub made : (next : Next) (emitted variables : List ℕ) (end : Run) → visit-refusal (record { number = number; next = next; emitted = emitted; variables = variables }) ≡ None
-      → ends (at-begin p row (record { number = number; next = next; emitted = emitted; variables = variables })) ≡ end
-      → left-by number end ≡ after-visit p row (record { number = number; next = next; emitted = emitted; variables = variables })
-  made (Next.Task t) emitted variables end free e = ap (left-by number) (sym e)
-  made Next.Stopped emitted variables end free e = let y : _≡_ {A = ℕ} 0 1 = cc in absurd (omega arith)
+below-last : (number : ℕ) (next : Next) (emitted variables : List ℕ) → visit-refusal (record { number = number; next = next; emitted = emitted; variables = variables }) ≡ None
+    → number ≡ 4294967295 → ⊥
+below-last number (Next.Task t) emitted variables free last =
+    let z : _≡_ {A = Option Refusal} (Some Refusal.LastNumber) None = sym (ap (λ b. cond b (Some Refusal.LastNumber) None) (eq-eqb number 4294967295 last)) ∙ free in
+    let y : _≡_ {A = ℕ} 0 1 = cc in
+    omega arith
+below-last number Next.Stopped emitted variables free last = let y : _≡_ {A = ℕ} 0 1 = cc in omega arith
 
 -- what comes next decides whether there is a visit
 next-cases : (n : Next) → ((t : Index 16) × (n ≡ Next.Task t)) ⊎ (n ≡ Next.Stopped)
@@ -93,7 +85,7 @@ module _ (p : Source) (rows : ℕ → List ℕ) (i : ℕ) (m n : Plain) (so-far 
       elim (cases-lt i 4294967295) [
         | inl h ↦ went ∙ before-last h
         | inr h ↦ elim (next-cases (m .next)) [
-          | inl t ↦ absurd (below-last p (rows i) (m .number) (m .next) (m .emitted) (m .variables) free (numbered (t .0) (t .1) ∙ omega arith))
+          | inl t ↦ absurd (below-last (m .number) (m .next) (m .emitted) (m .variables) free (numbered (t .0) (t .1) ∙ omega arith))
           | inr stopped ↦ went ∙ stays p (rows i) (m .number) (m .next) (m .emitted) (m .variables) stopped ∙ past-last h
         ]
       ]

@@ -2,7 +2,7 @@
 use mathlib.Core.List.{List, []}
 use mathlib.Core.Bool.{cond}
 use mathlib.Core.Path.{_≡_}
-use Prim.Native.Nat.{ℕ}
+use Prim.Native.Nat.{ℕ, _<_}
 use lib.Dec.{eqb}
 use lib.ListN.{length}
 use Rattle.std.specs.declared.option.Option.{Option}
@@ -17,8 +17,8 @@ use Rattle.plain.specs.declared.machine.Machine.{Machine}
 use Rattle.plain.specs.declared.machine.visits.Refusal.{Refusal}
 use Rattle.plain.specs.declared.machine.pages.WrongLength.{WrongLength}
 use Rattle.plain.specs.declared.visit.Visit.{Visit}
-use Rattle.plain.specs.Plain.{Plain, after-visit, page}
-use Rattle.plain.specs.Steps.{Standing, standing, starting}
+use Rattle.plain.specs.Plain.{Plain, left-by, after-visit, page}
+use Rattle.plain.specs.Steps.{Standing, standing, starting, ends}
 
 abbrev pub plain-of : Machine → Plain
 plain-of m = record { number = m .number; next = m .next; emitted = items (m .emitted); variables = items (m .variables) }
@@ -40,8 +40,10 @@ at-begin p row m = elim (m .next) [
   | Next.Stopped ↦ starting [] row (m .variables)
 ]
 
+-- A visit that is begun ends where the machine's next visit does.
 abbrev pub Begun : Source → List ℕ → Plain → Result Visit Refusal → Type 0
-Begun p row m (Ok v) = (visit-refusal m ≡ None) × (standing v ≡ at-begin p row m)
+Begun p row m (Ok v) =
+    (visit-refusal m ≡ None) × (m .number < 4294967295) × (standing v ≡ at-begin p row m) × (left-by (m .number) (ends (standing v)) ≡ after-visit p row m)
 Begun p row m (Err e) = visit-refusal m ≡ Some e
 
 -- A visit is made, or refused with nothing altered.

@@ -2,7 +2,7 @@
 use program::statement::Next;
 use words::list::Words;
 
-pub mod work;
+mod work;
 
 #[derive(Clone, Copy)]
 pub struct Frame {

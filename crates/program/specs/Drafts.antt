@@ -64,4 +64,4 @@ No-room p = (64 ≤ length (last-task (p .tasks))) ⊎ (256 ≤ total (p .tasks)
 -- A statement is taken; or it is refused, without a task or without room, with nothing altered.
 abbrev pub Taken : Source → Statement → Result (Unit {0}) Flaw → Source → Type 0
 Taken p s (Ok _) q = (0 < length (p .tasks)) × (No-room p → ⊥) × (q ≡ with-statement s p)
-Taken p s (Err e) q = (q ≡ p) × (((e ≡ Flaw.NoTask) × (p .tasks ≡ [])) ⊎ ((e ≡ Flaw.Statements) × (0 < length (p .tasks)) × No-room p))
+Taken p s (Err e) q = (q ≡ p) × (((e ≡ Flaw.NoTask) × (length (p .tasks) ≡ 0)) ⊎ ((e ≡ Flaw.Statements) × (0 < length (p .tasks)) × No-room p))

@@ -30,5 +30,5 @@ Made p (Err Flaw.Variables) = ⊥
 Made p (Err Flaw.Locals) = ⊥
 Made p (Err Flaw.Tasks) = ⊥
 Made p (Err Flaw.Statements) = ⊥
-Made p (Err Flaw.NoTask) = p .tasks ≡ []
+Made p (Err Flaw.NoTask) = length (p .tasks) ≡ 0
 Made p (Err (Flaw.Malformed t)) = (t .number < length (p .tasks)) × ((u : ℕ) → u < t .number → sound-at p u) × (sound-at p (t .number) → ⊥)

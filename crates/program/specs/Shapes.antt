@@ -43,15 +43,6 @@ emits (Statement.Skip k t) = 0
 emits (Statement.Next t) = 0
 emits (Statement.Choose c t u) = 0
 
--- how many statements behind it a skip passes over when its test holds
-abbrev pub reach : Statement → ℕ
-reach Statement.Stop = 0
-reach (Statement.Set n a o b) = 0
-reach (Statement.Emit a) = 0
-reach (Statement.Skip k t) = k .count
-reach (Statement.Next t) = 0
-reach (Statement.Choose c t u) = 0
-
 -- how many statements behind it may be passed over: both ways are free at a skip
 abbrev pub ways : Statement → List ℕ
 ways Statement.Stop = 0 ∷ []

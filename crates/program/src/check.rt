@@ -4,7 +4,7 @@ ghost use mathlib.Core.Path.{_≡_};
 ghost use Prim.Native.Nat.{_≤_};
 ghost use lib.Dec.{ltb};
 ghost use lib.ListN.{length};
-ghost use Rattle.program.specs.Shapes.{reach, emits};
+ghost use Rattle.program.specs.Shapes.{emits};
 ghost use Rattle.program.specs.Sound.{operand-declared, target-declared, declared, placed, all-placed, few-emits, task-sound};
 use crate::statement::Operand;
 use crate::statement::Statement;
@@ -117,17 +117,6 @@ fn statements_sound(task: &[Statement], scope: Scope) -> bool
     true
 }
 
-// How many statements the statement passes over if its test holds.
-fn reach_of(statement: Statement) -> u8
-    ensures value { λ r. ⌜ r ≡ reach statement ⌝ }
-    ensures bound { λ r. ⌜ r ≤ 15 ⌝ }
-{
-    match statement {
-        Statement::Skip { reach, .. } => reach.count(),
-        _ => 0,
-    }
-}
-
 // How many words the statement adds to the record.
 fn emits_of(statement: Statement) -> u8
     ensures { λ r. ⌜ r ≡ emits statement ⌝ }
@@ -138,24 +127,20 @@ fn emits_of(statement: Statement) -> u8
     }
 }
 
-// No path adds more than eight words to the record. From the ending backward, the most that a path adds from a
-// statement on is what the statement adds and the most of the ways that go on from it.
+// No path adds more than eight words to the record. Both ways are free at a skip, so that one path comes to every
+// statement, and no path adds more than that one.
 fn emits_few(task: &[Statement]) -> bool
-    requires { ⌜ length (now task) ≤ 64 ⌝ }
     ensures { λ r. ⌜ r ≡ few-emits (now (task .entry)) ⌝ }
 {
-    let mut most = [0u8; 80];
-    for i in (0..task.len()).rev() {
-        let statement = task[i];
-        let over = reach_of(statement) as usize;
-        let onward = most[i + 1].max(most[i + 1 + over]);
-        most[i] = onward.saturating_add(emits_of(statement));
+    let mut emitted: usize = 0;
+    for i in 0..task.len() {
+        emitted += emits_of(task[i]) as usize;
     }
-    most[0] <= 8
+    emitted <= 8
 }
 
 // The task is well formed, if it has at most 64 statements.
-pub fn well_formed(task: &[Statement], scope: Scope) -> bool
+pub(crate) fn well_formed(task: &[Statement], scope: Scope) -> bool
     requires { ⌜ length (now task) ≤ 64 ⌝ }
     ensures { λ r. ⌜ r ≡ task-sound (scope .variables) (scope .locals) (scope .tasks) (now (task .entry)) ⌝ }
 {

@@ -44,7 +44,7 @@ fn compare(comparison: Comparison, left: u16, right: u16) -> bool
 
 impl Frame {
     // What a visit begins with: the locals 0, the record empty.
-    pub fn new(row: &[u16; 8], variables: Words<48>) -> Frame
+    pub(crate) fn new(row: &[u16; 8], variables: Words<48>) -> Frame
         ensures { λ r. ⌜ run-of r ≡ begun (now (row .entry)) (items variables) ⌝ }
     {
         Frame {
@@ -56,7 +56,7 @@ impl Frame {
         }
     }
 
-    pub fn value(&self, operand: Operand) -> u16
+    pub(crate) fn value(&self, operand: Operand) -> u16
         ensures { λ r. ⌜ r ≡ value (run-of (now (self .entry))) operand ⌝ }
     {
         match operand {
@@ -87,7 +87,7 @@ impl Frame {
     }
 
     // How many statements behind it are passed over.
-    pub fn passes(&self, statement: Statement) -> u8
+    pub(crate) fn passes(&self, statement: Statement) -> u8
         ensures { λ r. ⌜ r ≡ passes statement (run-of (now (self .entry))) ⌝ }
     {
         match statement {
@@ -97,7 +97,7 @@ impl Frame {
     }
 
     // The statement's work, for which the record has room.
-    pub fn work(&mut self, statement: Statement)
+    pub(crate) fn work(&mut self, statement: Statement)
         requires { ⌜ length (items (now self .emitted)) + emits statement ≤ 8 ⌝ }
         ensures { λ _. ⌜ run-of (now (self .exit)) ≡ after statement (run-of (now (self .entry))) ⌝ }
     {

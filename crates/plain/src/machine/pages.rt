@@ -35,12 +35,13 @@ impl<'p> Machine<'p> {
     fn word(&self, place: usize) -> u16
         ensures { λ r. ⌜ r ≡ getD (page (plain-of (now (self .entry)))) place 0 ⌝ }
     {
+        let emitted = self.last_record();
         match place {
             0 => (self.number % 65536) as u16,
             1 => (self.number / 65536) as u16,
             2 => self.next_word(),
-            3 => self.emitted.len() as u16,
-            4..12 => self.emitted.get(place - 4),
+            3 => emitted.len() as u16,
+            4..12 => emitted.get(place - 4),
             _ => self.variables.get(place - 12),
         }
     }

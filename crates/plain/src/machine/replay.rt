@@ -1,15 +1,24 @@
 // The machine after a whole series of visits.
 ghost use mathlib.Core.Path.{_≡_};
-ghost use Prim.Native.Nat.{min};
+ghost use mathlib.Core.List.{List};
+ghost use Prim.Native.Nat.{ℕ, _+_, min};
 ghost use lib.ListN.{length};
 ghost use Rattle.program.specs.Programs.{program-source};
 ghost use Rattle.plain.specs.Plain.{visits};
 ghost use Rattle.plain.specs.Series.{row-at};
-ghost use Rattle.plain.specs.Machines.{plain-of};
+ghost use Rattle.plain.specs.Machines.{plain-of, rules-of};
 use crate::machine::Machine;
 use program::program::Program;
 
 impl<'p> Machine<'p> {
+    // One row more of a series: its visit, or nothing where there is none.
+    fn take_row(&mut self, row: &[u16; 8])
+        ensures rules { λ _. ⌜ now (now (self .exit) .program) ≡ now (now (self .entry) .program) ⌝ }
+        ensures value { λ _. ⌜ ((rows : ℕ → List ℕ) (i : ℕ) → now (row .entry) ≡ rows i → plain-of (now (self .entry)) ≡ visits (rules-of (now (self .entry))) rows (min i 4294967295) → plain-of (now (self .exit)) ≡ visits (rules-of (now (self .entry))) rows (min (i + 1) 4294967295)) ⌝ }
+    {
+        let _ = self.visit(row);
+    }
+
     // The machine after a visit for each row. There are at most 4,294,967,295 visits, and none after a stop.
     pub fn replay(program: &'p Program, rows: &[[u16; 8]]) -> Machine<'p>
         ensures rules { λ r. ⌜ now (r .program) ≡ now (program .entry) ⌝ }
@@ -17,7 +26,7 @@ impl<'p> Machine<'p> {
     {
         let mut machine = Machine::new(program);
         for row in rows {
-            let _ = machine.visit(row);
+            machine.take_row(row);
         }
         machine
     }

@@ -1,8 +1,11 @@
 // The machine's visits.
 ghost use mathlib.Core.Path.{_≡_};
 ghost use Rattle.program.specs.Programs.{program-source};
-ghost use Rattle.plain.specs.Plain.{first-next, at-first};
+ghost use Prim.Native.Nat.{_<_};
+ghost use Rattle.plain.specs.Frames.{run-of};
+ghost use Rattle.plain.specs.Plain.{first-next, at-first, left-by};
 ghost use Rattle.plain.specs.Machines.{plain-of, rules-of, Begun, Visited};
+use crate::frame::Frame;
 use crate::machine::Machine;
 use crate::visit::Visit;
 use program::program::Program;
@@ -57,18 +60,25 @@ impl<'p> Machine<'p> {
         Ok(Visit::new(self.program, task, row, self.variables))
     }
 
+    // Takes up where a visit has ended.
+    fn settle(&mut self, end: Frame)
+        requires { ⌜ now self .number < 4294967295 ⌝ }
+        ensures rules { λ _. ⌜ now (now (self .exit) .program) ≡ now (now (self .entry) .program) ⌝ }
+        ensures value { λ _. ⌜ plain-of (now (self .exit)) ≡ left-by (now (self .entry) .number) (run-of end) ⌝ }
+    {
+        self.number += 1;
+        self.next = end.chosen;
+        self.emitted = end.emitted;
+        self.variables = end.variables;
+    }
+
     // One visit with its row.
     pub fn visit(&mut self, row: &[u16; 8]) -> Result<(), Refusal>
         ensures rules { λ _. ⌜ now (now (self .exit) .program) ≡ now (now (self .entry) .program) ⌝ }
         ensures value { λ r. ⌜ Visited (rules-of (now (self .entry))) (now (row .entry)) (plain-of (now (self .entry))) r (plain-of (now (self .exit))) ⌝ }
     {
-        let mut visit = self.begin(row)?;
-        while visit.step().is_some() {}
-        let end = visit.end();
-        self.number += 1;
-        self.next = end.chosen;
-        self.emitted = end.emitted;
-        self.variables = end.variables;
+        let end = self.begin(row)?.finish();
+        self.settle(end);
         Ok(())
     }
 }

@@ -4,7 +4,7 @@ ghost use Rattle.program.specs.Runs.{value};
 ghost use Rattle.words.specs.Lists.{items};
 ghost use Rattle.program.specs.Programs.{program-source, task-of};
 ghost use Rattle.plain.specs.Frames.{run-of};
-ghost use Rattle.plain.specs.Steps.{standing, starting, coming, stepped};
+ghost use Rattle.plain.specs.Steps.{standing, starting, coming, stepped, ends};
 use crate::frame::Frame;
 use crate::visit::Visit;
 use program::program::Program;
@@ -32,13 +32,6 @@ impl<'p> Visit<'p> {
         }
     }
 
-    // The run so far.
-    pub(crate) fn end(&self) -> Frame
-        ensures { λ r. ⌜ run-of r ≡ standing (now (self .entry)) .run ⌝ }
-    {
-        self.frame
-    }
-
     // The statement that comes, if the task is not over.
     pub fn statement(&self) -> Option<Statement>
         ensures { λ r. ⌜ r ≡ coming (standing (now (self .entry))) ⌝ }
@@ -63,5 +56,13 @@ impl<'p> Visit<'p> {
         self.frame.work(statement);
         self.at += 1 + over as usize;
         Some(statement)
+    }
+
+    // Does all that is left of the task.
+    pub(crate) fn finish(mut self) -> Frame
+        ensures { λ r. ⌜ run-of r ≡ ends (standing (self .entry)) ⌝ }
+    {
+        while self.step().is_some() {}
+        self.frame
     }
 }

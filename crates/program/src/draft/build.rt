@@ -1,7 +1,9 @@
 // How a draft is made, one declaration or statement at a time.
 ghost use mathlib.Core.Path.{_≡_};
+ghost use Prim.Native.Nat.{_<_};
 ghost use lib.ListN.{length};
-ghost use Rattle.program.specs.Drafts.{source-of, blank, with-variable, with-local, with-task, Adds, Taken};
+ghost use Rattle.program.specs.Sound.{total};
+ghost use Rattle.program.specs.Drafts.{source-of, blank, with-variable, with-local, with-task, with-statement, last-task, Adds, Taken};
 use crate::draft::Draft;
 use crate::span::Span;
 use crate::statement::IndexDebug;
@@ -66,40 +68,59 @@ impl Draft {
         Ok(local)
     }
 
-    // One task more, which the statements that follow are for.
-    pub fn task(&mut self) -> Result<Task, Flaw>
-        ensures { λ r. ⌜ Adds (length (source-of (now (self .entry)) .tasks)) Flaw.Tasks (source-of (now (self .entry))) (with-task (source-of (now (self .entry)))) r (source-of (now (self .exit))) ⌝ }
+    // A span for one task more, as yet without statements.
+    fn open(&mut self)
+        requires { ⌜ length (source-of (now self) .tasks) < 16 ⌝ }
+        ensures { λ _. ⌜ source-of (now (self .exit)) ≡ with-task (source-of (now (self .entry))) ⌝ }
     {
-        let Some(task) = Task::new(self.tasks) else {
-            return Err(Flaw::Tasks);
-        };
         self.spans[self.tasks as usize] = Span {
             first: self.count,
             size: 0,
         };
         self.tasks += 1;
+    }
+
+    // One task more, which the statements that follow are for.
+    pub fn task(&mut self) -> Result<Task, Flaw>
+        ensures { λ r. ⌜ Adds (length (source-of (now (self .entry)) .tasks)) Flaw.Tasks (source-of (now (self .entry))) (with-task (source-of (now (self .entry)))) r (source-of (now (self .exit))) ⌝ }
+    {
+        let Some(task) = Task::new(self.tasks()) else {
+            return Err(Flaw::Tasks);
+        };
+        self.open();
         Ok(task)
+    }
+
+    // Puts a statement behind the last task's.
+    fn append(&mut self, statement: Statement)
+        requires some { ⌜ 0 < length (source-of (now self) .tasks) ⌝ }
+        requires room { ⌜ length (last-task (source-of (now self) .tasks)) < 64 ⌝ ∗ ⌜ total (source-of (now self) .tasks) < 256 ⌝ }
+        ensures { λ _. ⌜ source-of (now (self .exit)) ≡ with-statement statement (source-of (now (self .entry))) ⌝ }
+    {
+        let last = self.tasks as usize - 1;
+        let span = self.spans[last];
+        self.table[self.count as usize] = statement;
+        self.spans[last] = Span {
+            first: span.first,
+            size: span.size + 1,
+        };
+        self.count += 1;
     }
 
     // One statement more in the last task.
     pub fn statement(&mut self, statement: Statement) -> Result<(), Flaw>
         ensures { λ r. ⌜ Taken (source-of (now (self .entry))) statement r (source-of (now (self .exit))) ⌝ }
     {
-        if self.tasks == 0 {
+        if self.tasks() == 0 {
             return Err(Flaw::NoTask);
         }
-        let last = self.tasks as usize - 1;
-        let span = self.spans[last];
-        let count = self.count as usize;
-        if span.size >= 64 || count >= 256 {
+        if self.last_size() >= 64 {
             return Err(Flaw::Statements);
         }
-        self.table[count] = statement;
-        self.spans[last] = Span {
-            first: span.first,
-            size: span.size + 1,
-        };
-        self.count += 1;
+        if self.total() >= 256 {
+            return Err(Flaw::Statements);
+        }
+        self.append(statement);
         Ok(())
     }
 }

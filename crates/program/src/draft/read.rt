@@ -5,8 +5,8 @@ ghost use Prim.Native.Nat.{_<_, _≤_};
 ghost use lib.ListN.{length, getD};
 ghost use Rattle.std.specs.Finite.{nth};
 ghost use Rattle.words.specs.Lists.{items};
-ghost use Rattle.program.specs.Sound.{task-sound};
-ghost use Rattle.program.specs.Drafts.{source-of};
+ghost use Rattle.program.specs.Sound.{total, task-sound};
+ghost use Rattle.program.specs.Drafts.{source-of, last-task};
 use crate::check::Scope;
 use crate::check::well_formed;
 use crate::draft::Draft;
@@ -21,6 +21,21 @@ impl Draft {
         ensures bound { λ r. ⌜ r ≤ 16 ⌝ }
     {
         self.tasks
+    }
+
+    // How many statements the last task has.
+    pub(crate) fn last_size(&self) -> u16
+        requires { ⌜ 0 < length (source-of (now self) .tasks) ⌝ }
+        ensures { λ r. ⌜ r ≡ length (last-task (source-of (now (self .entry)) .tasks)) ⌝ }
+    {
+        self.spans[self.tasks as usize - 1].size
+    }
+
+    // How many statements there are in all.
+    pub(crate) fn total(&self) -> u16
+        ensures { λ r. ⌜ r ≡ total (source-of (now (self .entry)) .tasks) ⌝ }
+    {
+        self.count
     }
 
     // The variables' first values.

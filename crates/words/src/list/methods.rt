@@ -23,30 +23,35 @@ impl<const N: usize> Words<N> {
         }
     }
 
+    // The words.
+    pub fn as_slice(&self) -> &[u16]
+        ensures { λ r. ⌜ now r ≡ items (now (self .entry)) ⌝ }
+    {
+        let words = &self.words[..];
+        &words[0..self.count]
+    }
+
     // How many words there are.
     pub fn len(&self) -> usize
         ensures value { λ r. ⌜ r ≡ length (items (now (self .entry))) ⌝ }
         ensures bound { λ r. ⌜ r ≤ N ⌝ }
     {
-        self.count
+        self.as_slice().len()
     }
 
     // The word at a place, 0 past the last.
     pub fn get(&self, place: usize) -> u16
         ensures { λ r. ⌜ r ≡ getD (items (now (self .entry))) place 0 ⌝ }
     {
-        if place < self.count {
-            self.words[place]
-        } else {
-            0
-        }
+        let words = self.as_slice();
+        if place < words.len() { words[place] } else { 0 }
     }
 
     // Puts a word in place of the one there; past the last it alters nothing.
     pub fn set(&mut self, place: usize, word: u16)
         ensures { λ _. ⌜ items (now (self .exit)) ≡ set (items (now (self .entry))) place word ⌝ }
     {
-        if place < self.count {
+        if place < self.len() {
             self.words[place] = word;
         }
     }
@@ -56,11 +61,12 @@ impl<const N: usize> Words<N> {
         ensures answer { λ r. ⌜ isOk r ≡ ltb (length (items (now (self .entry)))) N ⌝ }
         ensures after { λ _. ⌜ items (now (self .exit)) ≡ pushed N (items (now (self .entry))) word ⌝ }
     {
-        if self.count >= N {
+        let count = self.len();
+        if count >= N {
             return Err(Full);
         }
-        self.words[self.count] = word;
-        self.count += 1;
+        self.words[count] = word;
+        self.count = count + 1;
         Ok(())
     }
 }

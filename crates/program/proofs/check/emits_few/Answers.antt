@@ -1,21 +1,22 @@
-use mathlib.Core.Path.{_≡_, refl, sym, ap, _∙_}
-use Prim.Native.Nat.{ℕ, _+_, _-_, _<_, _≤_, max, min}
+use mathlib.Core.Path.{_≡_, sym, _∙_, ap}
 use native.Mathlib.Omega.{arith}
 use lib.Dec.{leb}
-use lib.ListN.{length, length-set}
-use Rattle.program.proofs.Checks.{most-back, few-most, none-left}
+use lib.ListN.{drop}
+use Rattle.std.proofs.shelf.Lists.{at-drop-all}
+use Rattle.program.specs.Paths.{emitted-on}
+use Rattle.program.proofs.Checks.{few-in-all, emitted-more, emits-one}
 use Rattle.program.proofs.check.emits_few.Needs as need
-
-pub loop-i-holds : need.loop-i-holds
-loop-i-holds c = (refl, λ j h. none-left (c .args .task .now) j h)
 
 pub loop-i-again : need.loop-i-again
 loop-i-again c =
-    let long : c .loop-i .i - 1 < length (c .loop-i .most) = omega arith in (
-      length-set (c .loop-i .most) _ _ ∙ c .loop-i .inv .0,
-      most-back (c .args .task .now) (c .loop-i .i - 1) (c .index-task-i .result) (omega arith) (c .index-task-i .is) (c .loop-i .most) (c .saturating-add .result) (c .pre) long
-          (λ j h. c .loop-i .inv .1 j (omega arith)) (cc),
-    )
+    let s = c .index-task-i .result in
+    let more = emitted-more (c .args .task .now) (c .loop-i .i) s (c .loop-i-test .taken) (c .index-task-i .is) in
+    let one = emits-one s in
+    let here = c .emits-of .ensures in
+    (omega arith, omega arith)
 
 pub returns : need.returns
-returns c = ap (λ n. leb n 8) (c .loop-i .inv .1 0 (omega arith)) ∙ sym (few-most (c .args .task .now))
+returns c =
+    let none = at-drop-all emitted-on (c .args .task .now) (c .loop-i .i) (c .loop-i-test .left) in
+    let all : c .loop-i .emitted ≡ emitted-on (c .args .task .now) = omega arith in
+    ap (λ n. leb n 8) all ∙ sym (few-in-all (c .args .task .now))

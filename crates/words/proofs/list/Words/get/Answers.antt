@@ -1,10 +1,8 @@
-use mathlib.Core.Path.{sym}
-use lib.Seq.{getD-take}
-use Rattle.words.proofs.Kept.{get-past}
+use mathlib.Core.Path.{_≡_, sym, _∙_, ap}
+use lib.ListN.{getD}
+use Rattle.std.proofs.shelf.Lists.{getD-past}
 use Rattle.words.proofs.list.Words.get.Needs as need
 
-pub returns-then-place-self : need.returns-then-place-self
-returns-then-place-self g c = sym (getD-take (c .args .self .now .count) (c .args .self .now .words) (c .args .place) 0 (c .if-place-self .taken))
-
-pub returns-else-place-self : need.returns-else-place-self
-returns-else-place-self g c = sym (get-past (c .args .self .now) (c .args .place) (c .if-place-self .left))
+pub returns-else-place-words : need.returns-else-place-words
+returns-else-place-words g c =
+    sym (getD-past (c .as-slice-words .result .now) (c .args .place) 0 (c .if-place-words .left)) ∙ ap (λ l. getD l (c .args .place) 0) (c .as-slice-words .ensures)

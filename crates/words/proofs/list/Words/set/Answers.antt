@@ -1,10 +1,12 @@
 use mathlib.Core.Path.{sym}
-use lib.Seq.{take-set-lt}
-use Rattle.words.proofs.Kept.{set-beyond}
+use native.Mathlib.Omega.{arith}
+use Rattle.std.proofs.shelf.Lists.{set-past}
+use Rattle.words.specs.Lists.{items}
+use Rattle.words.proofs.Kept.{take-put}
 use Rattle.words.proofs.list.Words.set.Needs as need
 
-pub returns-then-place-self : need.returns-then-place-self
-returns-then-place-self g c = take-set-lt _ _ _ _ (c .if-place-self .taken)
+pub returns-then-place-len : need.returns-then-place-len
+returns-then-place-len g c = take-put (c .args .self .now .count) (c .args .self .now .words) (c .args .place) (c .args .word)
 
-pub returns-else-place-self : need.returns-else-place-self
-returns-else-place-self g c = sym (set-beyond (c .args .self .now) (c .args .place) _ (c .if-place-self .left))
+pub returns-else-place-len : need.returns-else-place-len
+returns-else-place-len g c = let long = c .len .ensures .value in sym (set-past (items (c .args .self .now)) (c .args .place) (c .args .word) (omega arith))

@@ -7,27 +7,33 @@ use Rattle.program.specs.declared.span.Span.{Span}
 use Rattle.program.specs.Drafts.{source-of, No-room}
 use Rattle.program.proofs.Spans.{inside-last, open-last, sizes-last}
 use Rattle.program.proofs.Drafts.{tasks-count, total-count, last-size, ends-here, sizes-here, grown, with-tasks}
-use Rattle.program.proofs.draft.Draft.statement.Needs as need
+use Rattle.program.proofs.draft.Draft.append.Needs as need
 
 abbrev none : Span
 none = record { first = 0; size = 0 }
 
-pub returns-then-span-ge64 : need.returns-then-span-ge64
-returns-then-span-ge64 c =
+pub listed : need.listed
+listed c = let all = total-count (c .args .self .now) in let full = c .args .self .now .full in omega arith
+
+pub index-self-self : need.index-self-self
+index-self-self c = let all = total-count (c .args .self .now) in omega arith
+
+pub add-self : need.add-self
+add-self c =
     let d = c .args .self .now in
-    let k : ℕ = d .tasks - 1 in
-    let e : d .tasks ≡ k + 1 = omega arith in
-    let size = last-size d k e none in
-    let all = total-count d in
     let many = tasks-count d in
-    let full : No-room (source-of d) = elim (c .then-span-ge64 .either) [ inl l ↦ inl (omega arith) | inr l ↦ inr (omega arith) ] in
-    (refl, inr (refl, omega arith, full))
+    let e : d .tasks ≡ d .tasks - 1 + 1 = omega arith in
+    let size = last-size d (d .tasks - 1) e none in
+    omega arith
 
 pub ghost-self : need.ghost-self
 ghost-self c =
     let d = c .args .self .now in
+    let many = tasks-count d in
+    let all = total-count d in
     let k : ℕ = d .tasks - 1 in
     let e : d .tasks ≡ k + 1 = omega arith in
+    let size = last-size d k e none in
     let few = d .few in
     let full = d .full in
     let old : Span = getD (d .spans) k none in
@@ -43,12 +49,8 @@ ghost-self c =
 pub returns : need.returns
 returns c =
     let d = c .args .self .now in
+    let many = tasks-count d in
+    let all = total-count d in
     let k : ℕ = d .tasks - 1 in
     let e : d .tasks ≡ k + 1 = omega arith in
-    let size = last-size d k e none in
-    let all = total-count d in
-    let many = tasks-count d in (
-      omega arith,
-      λ full. elim full [ inl l ↦ omega arith | inr l ↦ omega arith ],
-      ap (with-tasks (source-of d)) (grown d k e none (c .args .statement) (omega arith)),
-    )
+    ap (with-tasks (source-of d)) (grown d k e none (c .args .statement) (omega arith))

@@ -6,13 +6,14 @@ use Rattle.program.specs.declared.span.Span.{Span}
 use Rattle.program.specs.Drafts.{source-of}
 use Rattle.program.proofs.Spans.{inside-last, open-last, sizes-last}
 use Rattle.program.proofs.Drafts.{tasks-count, opened, with-tasks}
-use Rattle.program.proofs.draft.Draft.task.Needs as need
+use Rattle.program.proofs.draft.Draft.open.Needs as need
 
 pub ghost-self : need.ghost-self
 ghost-self c =
     let d = c .args .self .now in
     let few = d .few in
     let full = d .full in
+    let many = tasks-count d in
     let x : Span = record { first = d .count; size = 0 } in
     let h : d .tasks < length (d .spans) = omega arith in
     let one : d .tasks + 1 ≡ d .tasks + 1 = refl in
@@ -25,6 +26,5 @@ ghost-self c =
 pub returns : need.returns
 returns c =
     let d = c .args .self .now in
-    let same : c .in-Some .task .number ≡ d .tasks = c .in-Some .ensures tt in
-    let some : d .tasks < 16 = omega (arith, c .in-Some .task .known) in
-    (same ∙ sym (tasks-count d), ap (with-tasks (source-of d)) (opened d (record { first = d .count; size = 0 }) refl some))
+    let few : d .tasks < 16 = omega (arith, tasks-count d, c .pre) in
+    ap (with-tasks (source-of d)) (opened d (record { first = d .count; size = 0 }) refl few)
