@@ -19,7 +19,7 @@ fn set_sum(target: Target, left: Operand, number: u16) -> Statement {
 }
 
 // var due 0, var n 5, loc t, task a: set t in0 + 14, set due t + 0, set n n + 1, emit due, next a.
-pub fn due_date() -> Result<Program, Flaw> {
+pub(crate) fn due_date() -> Result<Program, Flaw> {
     let mut draft = Draft::new();
     let due = draft.variable(0)?;
     let n = draft.variable(5)?;

@@ -1,4 +1,5 @@
 pub mod Series
+pub mod Examples
 pub mod Pages
 pub mod Steps
 pub mod Visits

@@ -3,3 +3,4 @@ pub mod Plain
 pub mod Steps
 pub mod Machines
 pub mod Series
+pub mod Examples

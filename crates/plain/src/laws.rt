@@ -1,4 +1,5 @@
 // Laws of the plain machine over any number of visits. Each function stands for one: its contract is the law.
+ghost use Rattle.plain.specs.Examples.{Examples-hold};
 ghost use Rattle.plain.specs.Series.{Numbers-visits, Rows-below, Page-tells-number, Page-length};
 
 // As long as the machine has not stopped, its visit number is the number of visits.
@@ -25,6 +26,13 @@ pub fn page_tells_number_stands() -> u8
 // A page has 12 words and one for each variable.
 pub fn page_length_stands() -> u8
     ensures { λ _. ⌜ Page-length ⌝ }
+{
+    0
+}
+
+// What well-formedness and the machine come to on examples.
+pub fn examples_hold() -> u8
+    ensures { λ _. ⌜ Examples-hold ⌝ }
 {
     0
 }
