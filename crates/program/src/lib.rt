@@ -2,5 +2,5 @@
 mod check;
 pub mod draft;
 pub mod program;
-pub mod span;
+mod span;
 pub mod statement;

@@ -51,13 +51,11 @@ impl<'p> Machine<'p> {
     pub fn begin(&self, row: &[u16; 8]) -> Result<Visit<'p>, Refusal>
         ensures { λ r. ⌜ Begun (rules-of (now (self .entry))) (now (row .entry)) (plain-of (now (self .entry))) r ⌝ }
     {
-        let Next::Task(task) = self.next else {
-            return Err(Refusal::Stopped);
-        };
-        if self.number == u32::MAX {
-            return Err(Refusal::LastNumber);
+        match self.next {
+            Next::Stopped => Err(Refusal::Stopped),
+            Next::Task(_) if self.number == u32::MAX => Err(Refusal::LastNumber),
+            Next::Task(task) => Ok(Visit::new(self.program, task, row, self.variables)),
         }
-        Ok(Visit::new(self.program, task, row, self.variables))
     }
 
     // Takes up where a visit has ended.

@@ -27,8 +27,7 @@ impl<const N: usize> Words<N> {
     pub fn as_slice(&self) -> &[u16]
         ensures { λ r. ⌜ now r ≡ items (now (self .entry)) ⌝ }
     {
-        let words = &self.words[..];
-        &words[0..self.count]
+        &(&self.words[..])[0..self.count]
     }
 
     // How many words there are.
@@ -43,8 +42,10 @@ impl<const N: usize> Words<N> {
     pub fn get(&self, place: usize) -> u16
         ensures { λ r. ⌜ r ≡ getD (items (now (self .entry))) place 0 ⌝ }
     {
-        let words = self.as_slice();
-        if place < words.len() { words[place] } else { 0 }
+        match self.as_slice().get(place) {
+            Some(word) => *word,
+            None => 0,
+        }
     }
 
     // Puts a word in place of the one there; past the last it alters nothing.

@@ -3,6 +3,6 @@ use lib.ListN.{getD}
 use Rattle.std.proofs.shelf.Lists.{getD-past}
 use Rattle.words.proofs.list.Words.get.Needs as need
 
-pub returns-else-place-words : need.returns-else-place-words
-returns-else-place-words g c =
-    sym (getD-past (c .as-slice-words .result .now) (c .args .place) 0 (c .if-place-words .left)) ∙ ap (λ l. getD l (c .args .place) 0) (c .as-slice-words .ensures)
+pub returns-in-None : need.returns-in-None
+returns-in-None g c =
+    sym (getD-past (c .as-slice .result .now) (c .args .place) 0 (c .in-None .ensures tt .finds .3)) ∙ ap (λ l. getD l (c .args .place) 0) (c .as-slice .ensures)
