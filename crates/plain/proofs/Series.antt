@@ -6,8 +6,7 @@ use native.Mathlib.Omega.{arith}
 use lib.ListN.{length, getD}
 use Rattle.program.specs.declared.statement.Index.{Index}
 use Rattle.program.specs.declared.statement.Next.{Next}
-use Rattle.program.specs.Sound.{Source}
-use Rattle.program.specs.Programs.{task-of}
+use Rattle.program.specs.Sound.{Source, task-of}
 use Rattle.laws.proofs.Kept.{keeps-unwritten}
 use Rattle.plain.specs.Plain.{Plain, begun, after-visit, visits, page, plain-page}
 use Rattle.plain.specs.Series.{Numbers-visits, Rows-below, Page-tells-number, Page-length}

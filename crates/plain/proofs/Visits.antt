@@ -18,7 +18,8 @@ use Rattle.program.specs.declared.statement.Next.{Next}
 use Rattle.program.specs.declared.statement.Statement.{Statement}
 use Rattle.program.specs.Sound.{Source}
 use Rattle.plain.specs.declared.machine.visits.Refusal.{Refusal}
-use Rattle.plain.specs.Plain.{Plain, after-visit, visits}
+use Rattle.plain.specs.Plain.{Plain, last-number, after-visit, visits}
+use Rattle.plain.specs.Series.{after-rows}
 use Rattle.plain.specs.Steps.{Standing, coming, step-by, stepped, ends}
 use Rattle.plain.specs.Machines.{visit-refusal, Visited}
 use Rattle.plain.proofs.Series.{numbers-visits}
@@ -37,9 +38,9 @@ module _ (p q : Standing) (e : q ≡ stepped p) where
 
 -- a visit that is not refused
 below-last : (number : ℕ) (next : Next) (emitted variables : List ℕ) → visit-refusal (record { number = number; next = next; emitted = emitted; variables = variables }) ≡ None
-    → number ≡ 4294967295 → ⊥
+    → number ≡ last-number → ⊥
 below-last number (Next.Task t) emitted variables free last =
-    let z : _≡_ {A = Option Refusal} (Some Refusal.LastNumber) None = sym (ap (λ b. cond b (Some Refusal.LastNumber) None) (eq-eqb number 4294967295 last)) ∙ free in
+    let z : _≡_ {A = Option Refusal} (Some Refusal.LastNumber) None = sym (ap (λ b. cond b (Some Refusal.LastNumber) None) (eq-eqb number last-number last)) ∙ free in
     let y : _≡_ {A = ℕ} 0 1 = cc in
     omega arith
 below-last number Next.Stopped emitted variables free last = let y : _≡_ {A = ℕ} 0 1 = cc in omega arith
@@ -50,7 +51,7 @@ next-cases (Next.Task t) = inl (t, refl)
 next-cases Next.Stopped = inr refl
 
 refusal-at : (number : ℕ) (next : Next) (emitted variables : List ℕ) (t : Index 16) → next ≡ Next.Task t
-    → visit-refusal (record { number = number; next = next; emitted = emitted; variables = variables }) ≡ cond (eqb number 4294967295) (Some Refusal.LastNumber) None
+    → visit-refusal (record { number = number; next = next; emitted = emitted; variables = variables }) ≡ cond (eqb number last-number) (Some Refusal.LastNumber) None
 refusal-at number (Next.Task u) emitted variables t e = refl
 refusal-at number Next.Stopped emitted variables t e = let z : _≡_ {A = ℕ} 0 1 = cc in absurd (omega arith)
 
@@ -60,29 +61,29 @@ stays p row number (Next.Task u) emitted variables e = let z : _≡_ {A = ℕ} 0
 stays p row number Next.Stopped emitted variables e = refl
 
 -- One visit more of a series, made or refused.
-module _ (p : Source) (rows : ℕ → List ℕ) (i : ℕ) (m n : Plain) (so-far : m ≡ visits p rows (min i 4294967295)) where
-  numbered : (t : Index 16) → m .next ≡ Next.Task t → m .number ≡ min i 4294967295
-  numbered t goes = ap (λ (o : Plain). o .number) so-far ∙ numbers-visits p rows (min i 4294967295) t (sym (ap (λ (o : Plain). o .next) so-far) ∙ goes)
+module _ (p : Source) (rows : ℕ → List ℕ) (i : ℕ) (m n : Plain) (so-far : m ≡ after-rows p rows i) where
+  numbered : (t : Index 16) → m .next ≡ Next.Task t → m .number ≡ min i last-number
+  numbered t goes = ap (λ (o : Plain). o .number) so-far ∙ numbers-visits p rows (min i last-number) t (sym (ap (λ (o : Plain). o .next) so-far) ∙ goes)
 
-  before-last : i < 4294967295 → after-visit p (rows i) m ≡ visits p rows (min (i + 1) 4294967295)
+  before-last : i < last-number → after-visit p (rows i) m ≡ after-rows p rows (i + 1)
   before-last h =
-      let here : min i 4294967295 ≡ i = omega arith in
-      let next : min (i + 1) 4294967295 ≡ suc i = omega arith in
+      let here : min i last-number ≡ i = omega arith in
+      let next : min (i + 1) last-number ≡ suc i = omega arith in
       ap (after-visit p (rows i)) (so-far ∙ ap (visits p rows) here) ∙ ap (visits p rows) (sym next)
 
-  past-last : 4294967295 ≤ i → m ≡ visits p rows (min (i + 1) 4294967295)
-  past-last h = let same : min i 4294967295 ≡ min (i + 1) 4294967295 = omega arith in so-far ∙ ap (visits p rows) same
+  past-last : last-number ≤ i → m ≡ after-rows p rows (i + 1)
+  past-last h = let same : min i last-number ≡ min (i + 1) last-number = omega arith in so-far ∙ ap (visits p rows) same
 
   -- before the last number only a stop is a reason to refuse
-  free-before : i < 4294967295 → (t : Index 16) → m .next ≡ Next.Task t → visit-refusal m ≡ None
+  free-before : i < last-number → (t : Index 16) → m .next ≡ Next.Task t → visit-refusal m ≡ None
   free-before h t goes =
       let number = numbered t goes in
       refusal-at (m .number) (m .next) (m .emitted) (m .variables) t goes
-      ∙ ap (λ b. cond b (Some Refusal.LastNumber) None) (ne-eqb (m .number) 4294967295 (λ last. omega arith))
+      ∙ ap (λ b. cond b (Some Refusal.LastNumber) None) (ne-eqb (m .number) last-number (λ last. omega arith))
 
-  pub series-on : (r : Result (Unit {0}) Refusal) → Visited p (rows i) m r n → n ≡ visits p rows (min (i + 1) 4294967295)
+  pub series-on : (r : Result (Unit {0}) Refusal) → Visited p (rows i) m r n → n ≡ after-rows p rows (i + 1)
   series-on (Ok u) (free, went) =
-      elim (cases-lt i 4294967295) [
+      elim (cases-lt i last-number) [
         | inl h ↦ went ∙ before-last h
         | inr h ↦ elim (next-cases (m .next)) [
           | inl t ↦ absurd (below-last (m .number) (m .next) (m .emitted) (m .variables) free (numbered (t .0) (t .1) ∙ omega arith))
@@ -90,7 +91,7 @@ module _ (p : Source) (rows : ℕ → List ℕ) (i : ℕ) (m n : Plain) (so-far 
         ]
       ]
   series-on (Err e) (refused, same) =
-      elim (cases-lt i 4294967295) [
+      elim (cases-lt i last-number) [
         | inl h ↦ elim (next-cases (m .next)) [
           | inl t ↦
               let no : _≡_ {A = Option Refusal} None (Some e) = sym (free-before h (t .0) (t .1)) ∙ refused in

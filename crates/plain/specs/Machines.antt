@@ -11,13 +11,13 @@ use Rattle.std.specs.declared.result.Result.{Result}
 use Rattle.std.specs.declared.result.Result.the-variants.{Ok, Err}
 use Rattle.words.specs.Lists.{items}
 use Rattle.program.specs.declared.statement.Next.{Next}
-use Rattle.program.specs.Sound.{Source}
-use Rattle.program.specs.Programs.{program-source, task-of}
+use Rattle.program.specs.Sound.{Source, task-of}
+use Rattle.program.specs.Programs.{program-source}
 use Rattle.plain.specs.declared.machine.Machine.{Machine}
 use Rattle.plain.specs.declared.machine.visits.Refusal.{Refusal}
 use Rattle.plain.specs.declared.machine.pages.WrongLength.{WrongLength}
 use Rattle.plain.specs.declared.visit.Visit.{Visit}
-use Rattle.plain.specs.Plain.{Plain, left-by, after-visit, page}
+use Rattle.plain.specs.Plain.{Plain, last-number, left-by, after-visit, page}
 use Rattle.plain.specs.Steps.{Standing, standing, starting, ends}
 
 abbrev pub plain-of : Machine → Plain
@@ -29,7 +29,7 @@ rules-of m = program-source (m .program .now)
 -- Why there is no visit: after a stop, or at the last visit number that there is.
 abbrev pub visit-refusal : Plain → Option Refusal
 visit-refusal m = elim (m .next) [
-  | Next.Task t ↦ cond (eqb (m .number) 4294967295) (Some Refusal.LastNumber) None
+  | Next.Task t ↦ cond (eqb (m .number) last-number) (Some Refusal.LastNumber) None
   | Next.Stopped ↦ Some Refusal.Stopped
 ]
 
@@ -43,7 +43,7 @@ at-begin p row m = elim (m .next) [
 -- A visit that is begun ends where the machine's next visit does.
 abbrev pub Begun : Source → List ℕ → Plain → Result Visit Refusal → Type 0
 Begun p row m (Ok v) =
-    (visit-refusal m ≡ None) × (m .number < 4294967295) × (standing v ≡ at-begin p row m) × (left-by (m .number) (ends (standing v)) ≡ after-visit p row m)
+    (visit-refusal m ≡ None) × (m .number < last-number) × (standing v ≡ at-begin p row m) × (left-by (m .number) (ends (standing v)) ≡ after-visit p row m)
 Begun p row m (Err e) = visit-refusal m ≡ Some e
 
 -- A visit is made, or refused with nothing altered.

@@ -5,8 +5,7 @@ use lib.Dec.{lit<}
 use lib.ListN.{length, take, replicate}
 use Rattle.program.specs.declared.statement.Next.{Next}
 use Rattle.program.specs.Runs.{Run, exec}
-use Rattle.program.specs.Sound.{Source}
-use Rattle.program.specs.Programs.{task-of}
+use Rattle.program.specs.Sound.{Source, task-of}
 
 -- the visit number, what comes next, the last visit's record, and the variables
 pub record Plain : Type 0 where
@@ -14,6 +13,10 @@ pub record Plain : Type 0 where
   pub next : Next
   pub emitted : List ℕ
   pub variables : List ℕ
+
+-- the last visit number that there is, the largest of 32 bits
+abbrev pub last-number : ℕ
+last-number = 4294967295
 
 -- task 0 comes first
 abbrev pub first-next : Next

@@ -1,16 +1,24 @@
 -- What holds of the plain machine over any number of visits.
 use mathlib.Core.List.{List, []}
 use mathlib.Core.Path.{_≡_}
-use Prim.Native.Nat.{ℕ, _+_, _<_}
+use Prim.Native.Nat.{ℕ, _+_, _<_, min}
 use lib.ListN.{length, getD}
 use Rattle.program.specs.declared.statement.Index.{Index}
 use Rattle.program.specs.declared.statement.Next.{Next}
 use Rattle.program.specs.Sound.{Source}
-use Rattle.plain.specs.Plain.{Plain, visits, page, plain-page}
+use Rattle.plain.specs.Plain.{Plain, last-number, visits, page, plain-page}
 
 -- the rows of a list, one a visit
 abbrev pub row-at : List (List ℕ) → ℕ → List ℕ
 row-at rows k = getD rows k []
+
+-- The machine after the first i rows, of which none beyond the last visit number has a visit.
+abbrev pub after-rows : Source → (ℕ → List ℕ) → ℕ → Plain
+after-rows p rows i = visits p rows (min i last-number)
+
+-- m with this row becomes n, as one row more of any series does it
+abbrev pub Continues : Source → List ℕ → Plain → Plain → Type 0
+Continues p row m n = (rows : ℕ → List ℕ) (i : ℕ) → row ≡ rows i → m ≡ after-rows p rows i → n ≡ after-rows p rows (i + 1)
 
 -- As long as the machine has not stopped, its visit number is the number of visits.
 abbrev pub Numbers-visits : Type 0

@@ -7,7 +7,8 @@ use Rattle.std.specs.declared.option.Option.the-variants.{Some, None}
 use Rattle.std.specs.Finite.{nth}
 use Rattle.program.specs.declared.statement.Statement.{Statement}
 use Rattle.program.specs.Runs.{Run, after, passes, exec}
-use Rattle.program.specs.Programs.{program-source, task-of}
+use Rattle.program.specs.Sound.{task-of}
+use Rattle.program.specs.Programs.{program-source}
 use Rattle.plain.specs.declared.visit.Visit.{Visit}
 use Rattle.plain.specs.Frames.{run-of}
 use Rattle.plain.specs.Plain.{begun}

@@ -1,5 +1,6 @@
 // A visit under way: its task, the statement that comes, and the run so far.
-ghost use Rattle.program.specs.Programs.{program-source, task-of};
+ghost use Rattle.program.specs.Sound.{task-of};
+ghost use Rattle.program.specs.Programs.{program-source};
 ghost use Rattle.plain.specs.Frames.{Room};
 use crate::frame::Frame;
 use program::program::Program;

@@ -15,9 +15,9 @@ use Rattle.program.specs.declared.program.Program.{Program}
 use Rattle.program.specs.declared.statement.Statement.{Statement}
 use Rattle.program.specs.Shapes.{every}
 use Rattle.program.specs.Paths.{paths, _∈_, emitted-on}
-use Rattle.program.specs.Sound.{Source, sound, counts-sound, all-placed, few-emits, task-sound, total}
+use Rattle.program.specs.Sound.{Source, sound, counts-sound, all-placed, few-emits, task-of, sound-at, total}
 use Rattle.program.specs.Drafts.{source-of}
-use Rattle.program.specs.Programs.{program-source, task-of, sound-at}
+use Rattle.program.specs.Programs.{program-source}
 use Rattle.program.proofs.Drafts.{tasks-count, total-count}
 
 pub every-from : {A : Type 0} (p : A → Bool) (xs : List A) (d : A) → ((i : ℕ) → i < length xs → p (getD xs i d) ≡ true) → every p xs ≡ true
@@ -40,7 +40,7 @@ counts-checked d some =
     and-from _ _ (and-from _ _ (le-leb (length (p .firsts)) 48 (omega arith)) (le-leb (p .locals) 8 (omega arith)))
     (and-from _ _ (and-from _ _ (lt-ltb 0 (length (p .tasks)) (omega arith)) (le-leb (length (p .tasks)) 16 (omega arith))) (le-leb (total (p .tasks)) 256 (omega arith)))
 
-pub all-checked : (d : Draft) → 0 < d .tasks → ((u : ℕ) → u < d .tasks → sound-at (source-of d) u) → sound (source-of d) ≡ true
+pub all-checked : (d : Draft) → 0 < d .tasks → ((u : ℕ) → u < d .tasks → sound-at (source-of d) u ≡ true) → sound (source-of d) ≡ true
 all-checked d some each =
     let tasks = tasks-count d in
     and-from _ _ (counts-checked d some) (every-from _ (source-of d .tasks) [] (λ u h. each u (omega arith)))
@@ -48,7 +48,7 @@ all-checked d some each =
 -- What a program keeps to
 
 -- of a task that is there, its check; of any other, that it has no statements
-task-cases : (p : Program) (t : ℕ) → (sound-at (program-source p) t) ⊎ (task-of (program-source p) t ≡ [])
+task-cases : (p : Program) (t : ℕ) → (sound-at (program-source p) t ≡ true) ⊎ (task-of (program-source p) t ≡ [])
 task-cases p t =
     elim (cases-lt t (length (program-source p .tasks))) [
       | inl h ↦ inl (every-at _ (program-source p .tasks) [] t h (and-parts (counts-sound (program-source p)) _ (p .checked) .1))

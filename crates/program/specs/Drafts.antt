@@ -42,6 +42,15 @@ abbrev pub Adds : {N : ℕ} → ℕ → Flaw → Source → Source → Result (I
 Adds count flaw p grown (Ok i) q = (i .number ≡ count) × (q ≡ grown)
 Adds {N} count flaw p grown (Err e) q = (N ≤ count) × (e ≡ flaw) × (q ≡ p)
 
+abbrev pub Declares-variable : ℕ → Source → Result (Index 48) Flaw → Source → Type 0
+Declares-variable first p r q = Adds (length (p .firsts)) Flaw.Variables p (with-variable first p) r q
+
+abbrev pub Declares-local : Source → Result (Index 8) Flaw → Source → Type 0
+Declares-local p r q = Adds (p .locals) Flaw.Locals p (with-local p) r q
+
+abbrev pub Declares-task : Source → Result (Index 16) Flaw → Source → Type 0
+Declares-task p r q = Adds (length (p .tasks)) Flaw.Tasks p (with-task p) r q
+
 -- a statement more in the last task
 abbrev pub onto-last : Statement → List (List Statement) → List (List Statement)
 onto-last s [] = []

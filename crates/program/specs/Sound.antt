@@ -3,7 +3,7 @@ use mathlib.Core.List.{List, [], _∷_}
 use mathlib.Core.Bool.{Bool, true, false, _&&_, cond, not}
 use Prim.Native.Nat.{ℕ, _+_, _-_}
 use lib.Dec.{eqb, leb, ltb}
-use lib.ListN.{length}
+use lib.ListN.{length, getD}
 use Rattle.program.specs.declared.statement.Operand.{Operand}
 use Rattle.program.specs.declared.statement.Target.{Target}
 use Rattle.program.specs.declared.statement.Statement.{Statement}
@@ -46,6 +46,14 @@ few-emits task = every (λ π. leb (emitted-on π) 8) (paths 0 task)
 -- A well-formed task has 1 to 64 statements.
 abbrev pub task-sound : ℕ → ℕ → ℕ → List Statement → Bool
 task-sound V L T task = (ltb 0 (length task) && leb (length task) 64) && (all-placed V L T task && few-emits task)
+
+-- the statements of task t
+abbrev pub task-of : Source → ℕ → List Statement
+task-of p t = getD (p .tasks) t []
+
+-- task t is well formed among what the program declares
+abbrev pub sound-at : Source → ℕ → Bool
+sound-at p t = task-sound (length (p .firsts)) (p .locals) (length (p .tasks)) (task-of p t)
 
 -- how many statements the tasks have in all
 abbrev pub total : List (List Statement) → ℕ

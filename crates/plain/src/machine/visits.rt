@@ -1,9 +1,9 @@
 // The machine's visits.
 ghost use mathlib.Core.Path.{_≡_};
-ghost use Rattle.program.specs.Programs.{program-source};
 ghost use Prim.Native.Nat.{_<_};
+ghost use Rattle.program.specs.Programs.{program-source};
 ghost use Rattle.plain.specs.Frames.{run-of};
-ghost use Rattle.plain.specs.Plain.{first-next, at-first, left-by};
+ghost use Rattle.plain.specs.Plain.{last-number, first-next, at-first, left-by};
 ghost use Rattle.plain.specs.Machines.{plain-of, rules-of, Begun, Visited};
 use crate::frame::Frame;
 use crate::machine::Machine;
@@ -60,7 +60,7 @@ impl<'p> Machine<'p> {
 
     // Takes up where a visit has ended.
     fn settle(&mut self, end: Frame)
-        requires { ⌜ now self .number < 4294967295 ⌝ }
+        requires { ⌜ now self .number < last-number ⌝ }
         ensures rules { λ _. ⌜ now (now (self .exit) .program) ≡ now (now (self .entry) .program) ⌝ }
         ensures value { λ _. ⌜ plain-of (now (self .exit)) ≡ left-by (now (self .entry) .number) (run-of end) ⌝ }
     {

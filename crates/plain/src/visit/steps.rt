@@ -2,7 +2,8 @@
 ghost use mathlib.Core.Path.{_≡_};
 ghost use Rattle.program.specs.Runs.{value};
 ghost use Rattle.words.specs.Lists.{items};
-ghost use Rattle.program.specs.Programs.{program-source, task-of};
+ghost use Rattle.program.specs.Sound.{task-of};
+ghost use Rattle.program.specs.Programs.{program-source};
 ghost use Rattle.plain.specs.Frames.{run-of};
 ghost use Rattle.plain.specs.Steps.{standing, starting, coming, stepped, ends};
 use crate::frame::Frame;

@@ -3,7 +3,7 @@ ghost use mathlib.Core.Path.{_≡_};
 ghost use Prim.Native.Nat.{_<_};
 ghost use lib.ListN.{length};
 ghost use Rattle.program.specs.Sound.{total};
-ghost use Rattle.program.specs.Drafts.{source-of, blank, with-variable, with-local, with-task, with-statement, last-task, Adds, Taken};
+ghost use Rattle.program.specs.Drafts.{source-of, blank, with-task, with-statement, last-task, Declares-variable, Declares-local, Declares-task, Taken};
 use crate::draft::Draft;
 use crate::span::Span;
 use crate::statement::IndexDebug;
@@ -48,7 +48,7 @@ impl Draft {
 
     // One variable more, with its first value.
     pub fn variable(&mut self, first: u16) -> Result<Variable, Flaw>
-        ensures { λ r. ⌜ Adds (length (source-of (now (self .entry)) .firsts)) Flaw.Variables (source-of (now (self .entry))) (with-variable first (source-of (now (self .entry)))) r (source-of (now (self .exit))) ⌝ }
+        ensures { λ r. ⌜ Declares-variable first (source-of (now (self .entry))) r (source-of (now (self .exit))) ⌝ }
     {
         let Some(variable) = Variable::new(self.firsts.len() as u8) else {
             return Err(Flaw::Variables);
@@ -59,7 +59,7 @@ impl Draft {
 
     // One local more.
     pub fn local(&mut self) -> Result<Local, Flaw>
-        ensures { λ r. ⌜ Adds (source-of (now (self .entry)) .locals) Flaw.Locals (source-of (now (self .entry))) (with-local (source-of (now (self .entry)))) r (source-of (now (self .exit))) ⌝ }
+        ensures { λ r. ⌜ Declares-local (source-of (now (self .entry))) r (source-of (now (self .exit))) ⌝ }
     {
         let Some(local) = Local::new(self.locals) else {
             return Err(Flaw::Locals);
@@ -82,7 +82,7 @@ impl Draft {
 
     // One task more, which the statements that follow are for.
     pub fn task(&mut self) -> Result<Task, Flaw>
-        ensures { λ r. ⌜ Adds (length (source-of (now (self .entry)) .tasks)) Flaw.Tasks (source-of (now (self .entry))) (with-task (source-of (now (self .entry)))) r (source-of (now (self .exit))) ⌝ }
+        ensures { λ r. ⌜ Declares-task (source-of (now (self .entry))) r (source-of (now (self .exit))) ⌝ }
     {
         let Some(task) = Task::new(self.tasks()) else {
             return Err(Flaw::Tasks);

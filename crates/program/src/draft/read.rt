@@ -1,11 +1,10 @@
 // What a draft holds, for the program made of it.
 ghost use mathlib.Core.Path.{_≡_};
-ghost use mathlib.Core.List.{[]};
 ghost use Prim.Native.Nat.{_<_, _≤_};
-ghost use lib.ListN.{length, getD};
+ghost use lib.ListN.{length};
 ghost use Rattle.std.specs.Finite.{nth};
 ghost use Rattle.words.specs.Lists.{items};
-ghost use Rattle.program.specs.Sound.{total, task-sound};
+ghost use Rattle.program.specs.Sound.{task-of, sound-at, total};
 ghost use Rattle.program.specs.Drafts.{source-of, last-task};
 use crate::check::Scope;
 use crate::check::well_formed;
@@ -48,7 +47,7 @@ impl Draft {
     // The statements of a task.
     fn statements(&self, task: u8) -> &[Statement]
         requires { ⌜ task < now self .tasks ⌝ }
-        ensures value { λ r. ⌜ now r ≡ getD (source-of (now (self .entry)) .tasks) task [] ⌝ }
+        ensures value { λ r. ⌜ now r ≡ task-of (source-of (now (self .entry))) task ⌝ }
         ensures bound { λ r. ⌜ length (now r) ≤ 64 ⌝ }
     {
         let span = self.spans[task as usize];
@@ -58,7 +57,7 @@ impl Draft {
 
     // The statement at a place of a task, if there is one.
     pub(crate) fn statement_at(&self, task: Task, place: usize) -> Option<Statement>
-        ensures { λ r. ⌜ r ≡ nth (getD (source-of (now (self .entry)) .tasks) (task .number) []) place ⌝ }
+        ensures { λ r. ⌜ r ≡ nth (task-of (source-of (now (self .entry))) (task .number)) place ⌝ }
     {
         if task.number() >= self.tasks {
             return None;
@@ -74,7 +73,7 @@ impl Draft {
     // Whether a task is well formed.
     pub(crate) fn task_sound(&self, task: u8) -> bool
         requires { ⌜ task < now self .tasks ⌝ }
-        ensures { λ r. ⌜ r ≡ task-sound (length (source-of (now (self .entry)) .firsts)) (source-of (now (self .entry)) .locals) (length (source-of (now (self .entry)) .tasks)) (getD (source-of (now (self .entry)) .tasks) task []) ⌝ }
+        ensures { λ r. ⌜ r ≡ sound-at (source-of (now (self .entry))) task ⌝ }
     {
         let scope = Scope {
             variables: self.firsts.len() as u8,

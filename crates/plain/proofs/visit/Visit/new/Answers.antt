@@ -2,7 +2,8 @@ use mathlib.Core.Path.{_≡_, sym, _∙_, ap}
 use native.Mathlib.Omega.{arith}
 use lib.ListN.{length}
 use Rattle.program.specs.Runs.{taken}
-use Rattle.program.specs.Programs.{program-source, task-of}
+use Rattle.program.specs.Sound.{task-of}
+use Rattle.program.specs.Programs.{program-source}
 use Rattle.program.proofs.Programs.{path-few}
 use Rattle.laws.proofs.Paths.{takes-a-path}
 use Rattle.plain.specs.Frames.{run-of}

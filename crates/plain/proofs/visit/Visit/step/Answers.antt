@@ -4,7 +4,8 @@ use Prim.Native.Nat.{_+_}
 use native.Mathlib.Omega.{arith}
 use Rattle.program.specs.declared.statement.Statement.{Statement}
 use Rattle.program.specs.Runs.{passes}
-use Rattle.program.specs.Programs.{program-source, task-of}
+use Rattle.program.specs.Sound.{task-of}
+use Rattle.program.specs.Programs.{program-source}
 use Rattle.program.proofs.Programs.{task-short}
 use Rattle.plain.specs.declared.visit.Visit.{Visit}
 use Rattle.plain.specs.Frames.{run-of}
