@@ -1,3 +1,4 @@
+-- Lemmas of the plain machine.
 pub mod Series
 pub mod Examples
 pub mod Pages

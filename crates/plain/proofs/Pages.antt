@@ -1,10 +1,10 @@
 -- The words of a page.
-use mathlib.Core.List.{List, [], _∷_, _++_}
+use mathlib.Core.List.{List, _∷_, _++_}
 use mathlib.Core.Path.{_≡_, refl, sym, _∙_, ap}
-use mathlib.Core.Logic.{_⊎_, inl, inr}
+use mathlib.Core.Logic.{inl, inr}
 use Prim.Native.Nat.{ℕ, suc, _+_, _-_, _<_, _≤_}
 use native.Mathlib.Omega.{arith}
-use lib.ListN.{length, getD, take, replicate, length-append}
+use lib.ListN.{length, getD, replicate, length-append}
 use lib.Seq.{getD-take, length-take-le}
 use Rattle.std.proofs.shelf.Lists.{getD-append-left, getD-append-right, getD-past}
 use Rattle.std.proofs.shelf.Tests.{cases-lt}

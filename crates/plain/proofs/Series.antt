@@ -1,14 +1,14 @@
 -- The plain machine over any number of visits.
 use mathlib.Core.List.{List}
-use mathlib.Core.Path.{_≡_, refl, sym, _∙_, ap, ap₂}
-use Prim.Native.Nat.{ℕ, zero, suc, _+_, _/_, _%_, _<_, _≤_}
+use mathlib.Core.Path.{_≡_, refl, _∙_, ap, ap₂}
+use Prim.Native.Nat.{ℕ, zero, suc, _+_, _/_, _%_, _<_}
 use native.Mathlib.Omega.{arith}
 use lib.ListN.{length, getD}
 use Rattle.program.specs.declared.statement.Index.{Index}
 use Rattle.program.specs.declared.statement.Next.{Next}
 use Rattle.program.specs.Sound.{Source, task-of}
 use Rattle.laws.proofs.Kept.{keeps-unwritten}
-use Rattle.plain.specs.Plain.{Plain, begun, after-visit, visits, page, plain-page}
+use Rattle.plain.specs.Plain.{Plain, begun, after-visit, visits, page}
 use Rattle.plain.specs.Series.{Numbers-visits, Rows-below, Page-tells-number, Page-length}
 use Rattle.plain.proofs.Pages.{page-length}
 

@@ -1,17 +1,16 @@
 -- One statement of a run on.
 use mathlib.Core.List.{List, [], _∷_}
-use mathlib.Core.Path.{_≡_, refl, sym, _∙_, ap, ap₂, subst}
+use mathlib.Core.Path.{_≡_, sym, _∙_, ap, ap₂, subst}
 use Prim.Native.Nat.{ℕ, zero, suc, _+_, _-_, _<_, _≤_}
 use native.Mathlib.Omega.{arith}
 use lib.ListN.{length, getD, drop}
-use Rattle.std.specs.declared.option.Option.{Option}
 use Rattle.std.specs.declared.option.Option.the-variants.{Some, None}
 use Rattle.std.specs.Finite.{nth}
 use Rattle.std.proofs.shelf.Lists.{drop-all}
 use Rattle.words.specs.Lists.{items}
 use Rattle.program.specs.declared.statement.Statement.{Statement}
 use Rattle.program.specs.Shapes.{emits}
-use Rattle.program.specs.Runs.{Run, after, passes, taken, exec}
+use Rattle.program.specs.Runs.{after, passes, taken, exec}
 use Rattle.program.specs.Paths.{emitted-on}
 use Rattle.laws.proofs.Runs.{taken-on, exec-on}
 use Rattle.laws.proofs.Kept.{emitted-after}

@@ -1,3 +1,4 @@
+-- The definitions of the plain machine.
 pub mod Frames
 pub mod Plain
 pub mod Steps

@@ -1,7 +1,7 @@
 -- What a draft says, as it grows.
 use mathlib.Core.List.{List, [], _∷_, _++_, map}
 use mathlib.Core.Path.{_≡_, refl, sym, _∙_, ap, ap₂}
-use Prim.Native.Nat.{ℕ, zero, suc, _+_, _-_, _<_, _≤_}
+use Prim.Native.Nat.{ℕ, _+_, _-_, _<_}
 use native.Mathlib.Omega.{arith}
 use lib.ListN.{length, getD, set, take, drop, length-map}
 use lib.Seq.{length-take-le, getD-take}
@@ -9,7 +9,7 @@ use Rattle.std.proofs.shelf.Lists.{take-more, map-push, getD-map}
 use Rattle.program.specs.declared.span.Span.{Span}
 use Rattle.program.specs.declared.draft.Draft.{Draft}
 use Rattle.program.specs.declared.statement.Statement.{Statement}
-use Rattle.program.specs.Spans.{part, Inside, sizes}
+use Rattle.program.specs.Spans.{part, sizes}
 use Rattle.program.specs.Sound.{Source, total}
 use Rattle.program.specs.Drafts.{source-of, onto-last, last-task}
 use Rattle.program.proofs.Spans.{length-part, all-end, total-parts, parts-beyond, part-grown, take-last, sizes-push}

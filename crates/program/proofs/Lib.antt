@@ -1,3 +1,4 @@
+-- Lemmas of drafts and programs.
 pub mod Indices
 pub mod Programs
 pub mod Spans

@@ -1,14 +1,14 @@
 -- Spans of the table: one more at the end, and one more statement in the last.
 use mathlib.Core.List.{List, [], _∷_, _++_, map}
 use mathlib.Core.Path.{_≡_, refl, sym, _∙_, ap, ap₂, subst}
-use mathlib.Core.Logic.{_⊎_, inl, inr, _≢_}
-use Prim.Native.Nat.{ℕ, zero, suc, _+_, _-_, _<_, _≤_}
+use mathlib.Core.Logic.{inl, inr}
+use Prim.Native.Nat.{ℕ, _+_, _-_, _<_, _≤_}
 use native.Mathlib.Omega.{arith}
-use lib.ListN.{length, getD, set, take, drop, length-take, length-drop, length-set}
-use lib.Seq.{getD-set-same, getD-set-other, getD-take, getD-drop, take-set-le, drop-set-add}
+use lib.ListN.{length, getD, set, take, drop, length-take, length-drop}
+use lib.Seq.{getD-set-same, getD-set-other, getD-take, take-set-le, drop-set-add}
 use Rattle.std.specs.shelf.Lists.{All}
 use Rattle.std.proofs.shelf.Elements.{all-from-getD}
-use Rattle.std.proofs.shelf.Lists.{take-more, take-more-set, map-push, getD-default}
+use Rattle.std.proofs.shelf.Lists.{take-more-set}
 use Rattle.std.proofs.shelf.Tests.{cases-eq}
 use Rattle.program.specs.declared.span.Span.{Span}
 use Rattle.program.specs.declared.statement.Statement.{Statement}
@@ -23,9 +23,6 @@ sizes-push (y ∷ xs) x = let on = sizes-push xs x in omega arith
 
 pub length-part : (table : List Statement) (x : Span) → x .first + x .size ≤ length table → length (part table x) ≡ x .size
 length-part table x h = simp (length-take, length-drop) (omega arith)
-
-pub getD-part : (table : List Statement) (x : Span) (i : ℕ) (d : Statement) → i < x .size → getD (part table x) i d ≡ getD table (x .first + i) d
-getD-part table x i d h = rw (getD-take, getD-drop)
 
 -- what is put behind a span leaves it
 part-beyond : (table : List Statement) (x : Span) (i : ℕ) (s : Statement) → x .first + x .size ≤ i → part (set table i s) x ≡ part table x

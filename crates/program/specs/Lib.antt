@@ -1,3 +1,4 @@
+-- The definitions of statements, runs, paths and programs.
 pub mod Shapes
 pub mod Runs
 pub mod Paths

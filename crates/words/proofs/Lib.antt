@@ -1,1 +1,2 @@
+-- Lemmas of lists of words.
 pub mod Kept

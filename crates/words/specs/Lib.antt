@@ -1,1 +1,2 @@
+-- The definitions of lists of words.
 pub mod Lists

@@ -1,3 +1,4 @@
+-- `ends_again_stands`: the law by its lemma.
 use Rattle.laws.proofs.Again.{ends-again}
 use Rattle.laws.proofs.ends_again_stands.Needs as need
 

@@ -1,3 +1,4 @@
+-- `examples_hold`: the law by its lemma.
 use Rattle.laws.proofs.Examples.{examples-hold}
 use Rattle.laws.proofs.examples_hold.Needs as need
 

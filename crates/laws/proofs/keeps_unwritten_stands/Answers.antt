@@ -1,3 +1,4 @@
+-- `keeps_unwritten_stands`: the law by its lemma.
 use Rattle.laws.proofs.Kept.{keeps-unwritten}
 use Rattle.laws.proofs.keeps_unwritten_stands.Needs as need
 

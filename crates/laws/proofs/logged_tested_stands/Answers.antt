@@ -1,3 +1,4 @@
+-- `logged_tested_stands`: the law by its lemma.
 use Rattle.laws.proofs.Paths.{logged-tested}
 use Rattle.laws.proofs.logged_tested_stands.Needs as need
 

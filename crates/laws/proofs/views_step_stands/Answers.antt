@@ -1,3 +1,4 @@
+-- `views_step_stands`: the law by its lemma.
 use Rattle.laws.proofs.Views.{views-step}
 use Rattle.laws.proofs.views_step_stands.Needs as need
 

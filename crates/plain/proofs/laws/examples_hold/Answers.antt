@@ -1,3 +1,4 @@
+-- `examples_hold`: the law by its lemma.
 use Rattle.plain.proofs.Examples.{examples-hold}
 use Rattle.plain.proofs.laws.examples_hold.Needs as need
 

@@ -1,3 +1,4 @@
+-- `rows_below_stands`: the law by its lemma.
 use Rattle.plain.proofs.Series.{rows-below}
 use Rattle.plain.proofs.laws.rows_below_stands.Needs as need
 

@@ -1,7 +1,7 @@
+-- `emits_few`: what the search leaves to show.
 use mathlib.Core.Path.{_≡_, sym, _∙_, ap}
 use native.Mathlib.Omega.{arith}
 use lib.Dec.{leb}
-use lib.ListN.{drop}
 use Rattle.std.proofs.shelf.Lists.{at-drop-all}
 use Rattle.program.specs.Paths.{emitted-on}
 use Rattle.program.proofs.Checks.{few-in-all, emitted-more, emits-one}

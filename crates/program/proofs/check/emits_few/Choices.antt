@@ -1,3 +1,4 @@
+-- `emits_few`: what its loop keeps.
 use mathlib.Core.Path.{_≡_}
 use Prim.Native.Nat.{_+_, _≤_}
 use lib.ListN.{drop}

@@ -1,5 +1,6 @@
+-- `statements_sound`: what the search leaves to show.
 use mathlib.Core.Bool.{true, false}
-use mathlib.Core.Path.{_≡_, sym, ap, _∙_}
+use mathlib.Core.Path.{sym, _∙_}
 use Rattle.std.proofs.shelf.Lists.{at-drop-all}
 use Rattle.program.specs.Sound.{all-placed}
 use Rattle.program.proofs.Checks.{all-placed-on}

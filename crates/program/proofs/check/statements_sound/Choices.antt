@@ -1,3 +1,4 @@
+-- `statements_sound`: what its loop keeps.
 use mathlib.Core.Path.{_≡_}
 use lib.ListN.{drop}
 use Rattle.program.specs.Sound.{all-placed}

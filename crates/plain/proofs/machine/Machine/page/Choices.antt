@@ -1,3 +1,4 @@
+-- `Machine::page`: what its loop keeps.
 use mathlib.Core.Path.{_≡_}
 use Prim.Native.Nat.{ℕ, _<_}
 use lib.ListN.{getD}

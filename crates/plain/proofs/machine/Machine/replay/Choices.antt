@@ -1,3 +1,4 @@
+-- `Machine::replay`: what its loop keeps.
 use mathlib.Core.Path.{_≡_}
 use Rattle.program.specs.Programs.{program-source}
 use Rattle.plain.specs.Series.{row-at, after-rows}

@@ -1,4 +1,5 @@
-use mathlib.Core.Path.{_≡_, sym, subst}
+-- `Machine::take_row`: what the search leaves to show.
+use mathlib.Core.Path.{subst}
 use mathlib.Core.List.{List}
 use Prim.Native.Nat.{ℕ}
 use Rattle.plain.specs.Machines.{plain-of, rules-of, Visited}

@@ -1,3 +1,4 @@
+-- `Machine::word`: what the search leaves to show.
 use mathlib.Core.Path.{sym, _∙_, ap}
 use Prim.Native.Nat.{_-_}
 use native.Mathlib.Omega.{arith}

@@ -1,3 +1,4 @@
+-- `first_next`: what the search leaves to show.
 use mathlib.Core.Path.{ap}
 use Rattle.program.specs.declared.statement.Next.{Next}
 use Rattle.program.proofs.Indices.{same-index}

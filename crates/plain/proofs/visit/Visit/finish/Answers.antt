@@ -1,4 +1,5 @@
-use mathlib.Core.Path.{_≡_, sym, _∙_}
+-- `Visit::finish`: what the search leaves to show.
+use mathlib.Core.Path.{sym, _∙_}
 use Rattle.plain.specs.Steps.{standing}
 use Rattle.plain.proofs.Visits.{goes, stops}
 use Rattle.plain.proofs.visit.Visit.finish.Needs as need

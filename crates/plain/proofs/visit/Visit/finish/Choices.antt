@@ -1,3 +1,4 @@
+-- `Visit::finish`: what its loop keeps, and the measure that falls.
 use mathlib.Core.Path.{_≡_}
 use Prim.Native.Nat.{_-_}
 use lib.ListN.{length}

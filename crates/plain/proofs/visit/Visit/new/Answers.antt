@@ -1,7 +1,7 @@
-use mathlib.Core.Path.{_≡_, sym, _∙_, ap}
+-- `Visit::new`: what the search leaves to show.
+use mathlib.Core.Path.{ap}
 use native.Mathlib.Omega.{arith}
 use lib.ListN.{length}
-use Rattle.program.specs.Runs.{taken}
 use Rattle.program.specs.Sound.{task-of}
 use Rattle.program.specs.Programs.{program-source}
 use Rattle.program.proofs.Programs.{path-few}

@@ -1,3 +1,4 @@
+-- `Visit::step`: what the search leaves to show.
 use mathlib.Core.List.{List}
 use mathlib.Core.Path.{_≡_, sym}
 use Prim.Native.Nat.{_+_}

@@ -1,10 +1,10 @@
-use mathlib.Core.Path.{_≡_, refl, sym, ap, _∙_}
-use mathlib.Core.Logic.{_⊎_, inl, inr}
-use Prim.Native.Nat.{ℕ, _+_, _-_, _<_, _≤_}
+-- `Draft::append`: what the search leaves to show.
+use mathlib.Core.Path.{_≡_, ap, _∙_}
+use Prim.Native.Nat.{ℕ, _+_, _-_, _<_}
 use native.Mathlib.Omega.{arith}
 use lib.ListN.{length, getD, length-set}
 use Rattle.program.specs.declared.span.Span.{Span}
-use Rattle.program.specs.Drafts.{source-of, No-room}
+use Rattle.program.specs.Drafts.{source-of}
 use Rattle.program.proofs.Spans.{inside-last, open-last, sizes-last}
 use Rattle.program.proofs.Drafts.{tasks-count, total-count, last-size, ends-here, sizes-here, grown, with-tasks}
 use Rattle.program.proofs.draft.Draft.append.Needs as need

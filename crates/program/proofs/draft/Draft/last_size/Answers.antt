@@ -1,3 +1,4 @@
+-- `Draft::last_size`: what the search leaves to show.
 use mathlib.Core.Path.{_≡_, sym}
 use Prim.Native.Nat.{_+_, _-_}
 use native.Mathlib.Omega.{arith}

@@ -1,5 +1,5 @@
-use mathlib.Core.Path.{_≡_, sym, ap, ap₂, _∙_}
-use lib.ListN.{length}
+-- `Draft::task_sound`: what the search leaves to show.
+use mathlib.Core.Path.{sym, ap, ap₂, _∙_}
 use Rattle.program.specs.Sound.{task-sound}
 use Rattle.program.proofs.Drafts.{tasks-count}
 use Rattle.program.proofs.draft.Draft.task_sound.Needs as need

@@ -1,3 +1,4 @@
+-- `Draft::tasks`: what the search leaves to show.
 use mathlib.Core.Path.{sym}
 use Rattle.program.proofs.Drafts.{tasks-count}
 use Rattle.program.proofs.draft.Draft.tasks.Needs as need

@@ -1,3 +1,4 @@
+-- `Draft::total`: what the search leaves to show.
 use mathlib.Core.Path.{sym}
 use Rattle.program.proofs.Drafts.{total-count}
 use Rattle.program.proofs.draft.Draft.total.Needs as need

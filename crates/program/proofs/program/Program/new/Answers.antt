@@ -1,3 +1,4 @@
+-- `Program::new`: what the search leaves to show.
 use native.Mathlib.Omega.{arith}
 use Rattle.program.proofs.Drafts.{tasks-count}
 use Rattle.program.proofs.Programs.{all-checked}

@@ -1,3 +1,4 @@
+-- `Program::new`: what its loop keeps.
 use mathlib.Core.Bool.{true}
 use mathlib.Core.Path.{_≡_}
 use Prim.Native.Nat.{ℕ, _<_}

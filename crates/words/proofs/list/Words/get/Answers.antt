@@ -1,4 +1,5 @@
-use mathlib.Core.Path.{_≡_, sym, _∙_, ap}
+-- `Words::get`: what the search leaves to show.
+use mathlib.Core.Path.{sym, _∙_, ap}
 use lib.ListN.{getD}
 use Rattle.std.proofs.shelf.Lists.{getD-past}
 use Rattle.words.proofs.list.Words.get.Needs as need

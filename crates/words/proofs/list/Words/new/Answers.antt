@@ -1,3 +1,4 @@
+-- `Words::new`: what the search leaves to show.
 use native.Mathlib.Omega.{arith}
 use lib.ListN.{length-replicate}
 use Rattle.words.proofs.list.Words.new.Needs as need

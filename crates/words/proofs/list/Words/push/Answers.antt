@@ -1,3 +1,4 @@
+-- `Words::push`: what the search leaves to show.
 use mathlib.Core.Path.{sym}
 use native.Mathlib.Omega.{arith}
 use lib.ListN.{length}

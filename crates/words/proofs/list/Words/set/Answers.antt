@@ -1,3 +1,4 @@
+-- `Words::set`: what the search leaves to show.
 use mathlib.Core.Path.{sym}
 use native.Mathlib.Omega.{arith}
 use Rattle.std.proofs.shelf.Lists.{set-past}
