@@ -5,3 +5,4 @@ pub mod Kept
 pub mod Again
 pub mod Views
 pub mod Examples
+pub mod Endings

@@ -36,7 +36,7 @@ module _ {A B : Type 0} (f : A → B) where
   in-map x (z ∷ xs) (inl e) = inl (ap f e)
   in-map x (z ∷ xs) (inr h) = inr (in-map x xs h)
 
-  from-map : (y : B) (xs : List A) → y ∈ map f xs → (x : A) × (x ∈ xs) × (y ≡ f x)
+  pub from-map : (y : B) (xs : List A) → y ∈ map f xs → (x : A) × (x ∈ xs) × (y ≡ f x)
   from-map y [] h = absurd h
   from-map y (z ∷ xs) (inl e) = (z, inl refl, e)
   from-map y (z ∷ xs) (inr h) = let on = from-map y xs h in (on .0, inr (on .1), on .2)
@@ -47,7 +47,7 @@ module _ {A B : Type 0} (f : A → List B) where
   in-joined x (z ∷ xs) y (inl e) i = in-left y (f z) (joined f xs) (subst (λ w. y ∈ f w) e i)
   in-joined x (z ∷ xs) y (inr h) i = in-right y (f z) (joined f xs) (in-joined x xs y h i)
 
-  from-joined : (xs : List A) (y : B) → y ∈ joined f xs → (x : A) × (x ∈ xs) × (y ∈ f x)
+  pub from-joined : (xs : List A) (y : B) → y ∈ joined f xs → (x : A) × (x ∈ xs) × (y ∈ f x)
   from-joined [] y h = absurd h
   from-joined (z ∷ xs) y h =
       elim (in-either y (f z) (joined f xs) h) [

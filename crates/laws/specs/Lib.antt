@@ -2,3 +2,4 @@
 pub mod Again
 pub mod Views
 pub mod Examples
+pub mod Endings

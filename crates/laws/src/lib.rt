@@ -1,5 +1,6 @@
 // Laws of all runs of a task. Each function stands for one law: its contract is the law, so that the check asks for the proof.
 ghost use Rattle.laws.specs.Again.{Takes-a-path, Paths-short, Emits-counted, Keeps-unwritten, Logged-tested, Unlogged-unread, Runs-again, Ends-again};
+ghost use Rattle.laws.specs.Endings.{Ends-once};
 ghost use Rattle.laws.specs.Views.{Views-step, Views-run};
 ghost use Rattle.laws.specs.Examples.{Examples-hold};
 
@@ -13,6 +14,13 @@ pub fn takes_a_path_stands() -> u8
 // A path has no more statements than its task.
 pub fn paths_short_stands() -> u8
     ensures { λ _. ⌜ Paths-short ⌝ }
+{
+    0
+}
+
+// Every path of a well-formed task ends in an ending, and has no other.
+pub fn ends_once_stands() -> u8
+    ensures { λ _. ⌜ Ends-once ⌝ }
 {
     0
 }

@@ -1,11 +1,12 @@
 -- What holds of the plain machine over any number of visits.
+use mathlib.Core.Bool.{true}
 use mathlib.Core.List.{List, []}
 use mathlib.Core.Path.{_≡_}
 use Prim.Native.Nat.{ℕ, _+_, _<_, min}
 use lib.ListN.{length, getD}
 use Rattle.program.specs.declared.statement.Index.{Index}
 use Rattle.program.specs.declared.statement.Next.{Next}
-use Rattle.program.specs.Sound.{Source}
+use Rattle.program.specs.Sound.{Source, sound}
 use Rattle.plain.specs.Plain.{Plain, last-number, visits, page, plain-page}
 
 -- the rows of a list, one a visit
@@ -23,6 +24,15 @@ Continues p row m n = (rows : ℕ → List ℕ) (i : ℕ) → row ≡ rows i →
 -- As long as the machine has not stopped, its visit number is the number of visits.
 abbrev pub Numbers-visits : Type 0
 Numbers-visits = (p : Source) (rows : ℕ → List ℕ) (n : ℕ) (t : Index 16) → visits p rows n .next ≡ Next.Task t → visits p rows n .number ≡ n
+
+-- one of T tasks, or nothing after a stop
+abbrev pub Known : ℕ → Next → Type 0
+Known T (Next.Task t) = t .number < T
+Known T Next.Stopped = Unit {0}
+
+-- Of a well-formed program, what comes next is always one of its tasks, or nothing after a stop.
+abbrev pub Next-known : Type 0
+Next-known = (p : Source) → sound p ≡ true → (rows : ℕ → List ℕ) (n : ℕ) → Known (length (p .tasks)) (visits p rows n .next)
 
 -- The first n visits look at the first n rows alone.
 abbrev pub Rows-below : Type 0

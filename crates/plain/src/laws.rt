@@ -1,10 +1,17 @@
 // Laws of the plain machine over any number of visits. Each function stands for one: its contract is the law.
 ghost use Rattle.plain.specs.Examples.{Examples-hold};
-ghost use Rattle.plain.specs.Series.{Numbers-visits, Rows-below, Page-tells-number, Page-length};
+ghost use Rattle.plain.specs.Series.{Numbers-visits, Next-known, Rows-below, Page-tells-number, Page-length};
 
 // As long as the machine has not stopped, its visit number is the number of visits.
 pub fn numbers_visits_stands() -> u8
     ensures { λ _. ⌜ Numbers-visits ⌝ }
+{
+    0
+}
+
+// Of a well-formed program, what comes next is always one of its tasks, or nothing after a stop.
+pub fn next_known_stands() -> u8
+    ensures { λ _. ⌜ Next-known ⌝ }
 {
     0
 }

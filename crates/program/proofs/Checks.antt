@@ -1,6 +1,6 @@
 -- The checks of a task, statement by statement.
 use mathlib.Core.List.{List, [], _∷_, _++_, map}
-use mathlib.Core.Bool.{Bool, true, false, _&&_}
+use mathlib.Core.Bool.{Bool, true, _&&_, and-true, and-assoc}
 use mathlib.Core.Path.{_≡_, refl, sym, _∙_, ap, ap₂, fun-ext}
 use Prim.Native.Nat.{ℕ, zero, suc, _+_, _-_, _<_, _≤_}
 use native.Mathlib.Nat.{add-assoc, zero-add}
@@ -11,7 +11,8 @@ use Rattle.std.proofs.shelf.Lists.{at-drop-more}
 use Rattle.program.specs.declared.statement.Statement.{Statement}
 use Rattle.std.proofs.shelf.Ways.{tells}
 use Rattle.std.specs.Joined.{joined}
-use Rattle.program.specs.Shapes.{every, emits, ways}
+use Rattle.std.specs.shelf.Lawful.{all-pass}
+use Rattle.program.specs.Shapes.{emits, ways}
 use Rattle.program.specs.Paths.{paths, emitted-on}
 use Rattle.program.specs.Sound.{declared, placed, all-placed, few-emits}
 
@@ -26,21 +27,13 @@ all-placed-on V L T task i s h read b test =
 
 -- a test of every element
 
-and-true : (b : Bool) → (b && true) ≡ b
-and-true true = refl
-and-true false = refl
+pass-map : {A B : Type 0} (p : B → Bool) (f : A → B) (xs : List A) → all-pass p (map f xs) ≡ all-pass (λ x. p (f x)) xs
+pass-map p f [] = refl
+pass-map p f (x ∷ xs) = ap (λ b. p (f x) && b) (pass-map p f xs)
 
-and-assoc : (a b c : Bool) → ((a && b) && c) ≡ (a && (b && c))
-and-assoc true b c = refl
-and-assoc false b c = refl
-
-every-map : {A B : Type 0} (p : B → Bool) (f : A → B) (xs : List A) → every p (map f xs) ≡ every (λ x. p (f x)) xs
-every-map p f [] = refl
-every-map p f (x ∷ xs) = ap (λ b. p (f x) && b) (every-map p f xs)
-
-every-append : {A : Type 0} (p : A → Bool) (xs ys : List A) → every p (xs ++ ys) ≡ (every p xs && every p ys)
-every-append p [] ys = refl
-every-append p (x ∷ xs) ys = ap (λ b. p x && b) (every-append p xs ys) ∙ sym (and-assoc (p x) (every p xs) (every p ys))
+pass-append : {A : Type 0} (p : A → Bool) (xs ys : List A) → all-pass p (xs ++ ys) ≡ (all-pass p xs && all-pass p ys)
+pass-append p [] ys = refl
+pass-append p (x ∷ xs) ys = ap (λ b. p x && b) (pass-append p xs ys) ∙ sym (and-assoc (p x) (all-pass p xs) (all-pass p ys))
 
 emitted-drop : (k : ℕ) (task : List Statement) → emitted-on (drop k task) ≤ emitted-on task
 emitted-drop zero task = omega arith
@@ -51,35 +44,35 @@ both-below : (a x y n : ℕ) → y ≤ x → (leb (a + x) n && (leb (a + y) n &&
 both-below a x y n h = grind (arith, tells)
 
 -- over the ways that go on from a statement: the straight one adds the most
-module _ (n a : ℕ) (q : List Statement → Bool) (rest : List Statement) (on : (k : ℕ) → every q (paths k rest) ≡ leb (a + emitted-on (drop k rest)) n) where
-  straight : every q (paths 0 rest ++ []) ≡ leb (a + emitted-on rest) n
-  straight = every-append q (paths 0 rest) [] ∙ ap (λ b. b && true) (on 0) ∙ and-true (leb (a + emitted-on rest) n)
+module _ (n a : ℕ) (q : List Statement → Bool) (rest : List Statement) (on : (k : ℕ) → all-pass q (paths k rest) ≡ leb (a + emitted-on (drop k rest)) n) where
+  straight : all-pass q (paths 0 rest ++ []) ≡ leb (a + emitted-on rest) n
+  straight = pass-append q (paths 0 rest) [] ∙ ap (λ b. b && true) (on 0) ∙ and-true (leb (a + emitted-on rest) n)
 
-  on-ways : (s : Statement) → every q (joined (λ k. paths k rest) (ways s)) ≡ leb (a + emitted-on rest) n
+  on-ways : (s : Statement) → all-pass q (joined (λ k. paths k rest) (ways s)) ≡ leb (a + emitted-on rest) n
   on-ways Statement.Stop = straight
   on-ways (Statement.Set t l o r) = straight
   on-ways (Statement.Emit l) = straight
   on-ways (Statement.Skip k t) =
-      every-append q (paths 0 rest) (paths (k .count) rest ++ [])
-      ∙ ap₂ _&&_ (on 0) (every-append q (paths (k .count) rest) [] ∙ ap (λ b. b && true) (on (k .count)))
+      pass-append q (paths 0 rest) (paths (k .count) rest ++ [])
+      ∙ ap₂ _&&_ (on 0) (pass-append q (paths (k .count) rest) [] ∙ ap (λ b. b && true) (on (k .count)))
       ∙ both-below a (emitted-on rest) (emitted-on (drop (k .count) rest)) n (emitted-drop (k .count) rest)
   on-ways (Statement.Next t) = straight
   on-ways (Statement.Choose c t u) = straight
 
 -- With a words added before them, no path adds more than n exactly when the one that comes to every statement does not.
-all-below : (n a k : ℕ) (task : List Statement) → every (λ π. leb (a + emitted-on π) n) (paths k task) ≡ leb (a + emitted-on (drop k task)) n
+all-below : (n a k : ℕ) (task : List Statement) → all-pass (λ π. leb (a + emitted-on π) n) (paths k task) ≡ leb (a + emitted-on (drop k task)) n
 all-below n a zero [] = and-true (leb (a + 0) n)
 all-below n a (suc k) [] = and-true (leb (a + 0) n)
 all-below n a (suc k) (s ∷ rest) = all-below n a k rest
 all-below n a zero (s ∷ rest) =
-    every-map (λ π. leb (a + emitted-on π) n) (λ π. s ∷ π) (joined (λ k. paths k rest) (ways s))
-    ∙ ap (λ q. every q (joined (λ k. paths k rest) (ways s))) (fun-ext (λ π. ap (λ m. leb m n) (sym (add-assoc a (emits s) (emitted-on π)))))
+    pass-map (λ π. leb (a + emitted-on π) n) (λ π. s ∷ π) (joined (λ k. paths k rest) (ways s))
+    ∙ ap (λ q. all-pass q (joined (λ k. paths k rest) (ways s))) (fun-ext (λ π. ap (λ m. leb m n) (sym (add-assoc a (emits s) (emitted-on π)))))
     ∙ on-ways n (a + emits s) (λ π. leb ((a + emits s) + emitted-on π) n) rest (λ k. all-below n (a + emits s) k rest) s
     ∙ ap (λ m. leb m n) (add-assoc a (emits s) (emitted-on rest))
 
 pub few-in-all : (task : List Statement) → few-emits task ≡ leb (emitted-on task) 8
 few-in-all task =
-    ap (λ q. every q (paths 0 task)) (fun-ext (λ π. ap (λ m. leb m 8) (sym (zero-add (emitted-on π)))))
+    ap (λ q. all-pass q (paths 0 task)) (fun-ext (λ π. ap (λ m. leb m 8) (sym (zero-add (emitted-on π)))))
     ∙ all-below 8 0 0 task
     ∙ ap (λ m. leb m 8) (zero-add (emitted-on task))
 

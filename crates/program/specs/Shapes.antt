@@ -1,20 +1,16 @@
 -- What a statement reads, sets, emits, may choose and may pass over.
 use mathlib.Core.List.{List, [], _∷_}
-use mathlib.Core.Bool.{Bool, true, false, _&&_, _||_}
+use mathlib.Core.Bool.{Bool, true, false, _||_}
 use Prim.Native.Nat.{ℕ}
 use Rattle.program.specs.declared.statement.Index.{Index}
 use Rattle.program.specs.declared.statement.Operand.{Operand}
 use Rattle.program.specs.declared.statement.Target.{Target}
 use Rattle.program.specs.declared.statement.Statement.{Statement}
 
--- the test passes at some element, at every element
+-- the test passes at some element
 abbrev pub some : {A : Type 0} → (A → Bool) → List A → Bool
 some p [] = false
 some p (x ∷ xs) = p x || some p xs
-
-abbrev pub every : {A : Type 0} → (A → Bool) → List A → Bool
-every p [] = true
-every p (x ∷ xs) = p x && every p xs
 
 -- the operands that it reads
 abbrev pub operands : Statement → List Operand

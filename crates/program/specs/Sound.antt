@@ -7,7 +7,8 @@ use lib.ListN.{length, getD}
 use Rattle.program.specs.declared.statement.Operand.{Operand}
 use Rattle.program.specs.declared.statement.Target.{Target}
 use Rattle.program.specs.declared.statement.Statement.{Statement}
-use Rattle.program.specs.Shapes.{every, operands, targets, choices, ways, ending}
+use Rattle.std.specs.shelf.Lawful.{all-pass}
+use Rattle.program.specs.Shapes.{operands, targets, choices, ways, ending}
 use Rattle.program.specs.Paths.{paths, emitted-on}
 
 -- A program: the first value of each variable, the number of locals, and the statements of each task.
@@ -29,11 +30,11 @@ target-declared V L (Target.Local l) = ltb (l .number) L
 
 -- what the statement names is declared among V variables, L locals and T tasks
 abbrev pub declared : ℕ → ℕ → ℕ → Statement → Bool
-declared V L T s = every (operand-declared V L) (operands s) && (every (target-declared V L) (targets s) && every (λ t. ltb (t .number) T) (choices s))
+declared V L T s = all-pass (operand-declared V L) (operands s) && (all-pass (target-declared V L) (targets s) && all-pass (λ t. ltb (t .number) T) (choices s))
 
 -- With n statements behind it: the last is an ending and no other is, and a skip leads at most to the ending.
 abbrev pub placed : Statement → ℕ → Bool
-placed s n = cond (eqb n 0) (ending s) (not (ending s)) && every (λ k. leb k (n - 1)) (ways s)
+placed s n = cond (eqb n 0) (ending s) (not (ending s)) && all-pass (λ k. leb k (n - 1)) (ways s)
 
 abbrev pub all-placed : ℕ → ℕ → ℕ → List Statement → Bool
 all-placed V L T [] = true
@@ -41,7 +42,7 @@ all-placed V L T (s ∷ rest) = (declared V L T s && placed s (length rest)) && 
 
 -- no path adds more than eight words to the record
 abbrev pub few-emits : List Statement → Bool
-few-emits task = every (λ π. leb (emitted-on π) 8) (paths 0 task)
+few-emits task = all-pass (λ π. leb (emitted-on π) 8) (paths 0 task)
 
 -- A well-formed task has 1 to 64 statements.
 abbrev pub task-sound : ℕ → ℕ → ℕ → List Statement → Bool
@@ -65,4 +66,4 @@ abbrev pub counts-sound : Source → Bool
 counts-sound p = (leb (length (p .firsts)) 48 && leb (p .locals) 8) && ((ltb 0 (length (p .tasks)) && leb (length (p .tasks)) 16) && leb (total (p .tasks)) 256)
 
 abbrev pub sound : Source → Bool
-sound p = counts-sound p && every (task-sound (length (p .firsts)) (p .locals) (length (p .tasks))) (p .tasks)
+sound p = counts-sound p && all-pass (task-sound (length (p .firsts)) (p .locals) (length (p .tasks))) (p .tasks)
