@@ -1,4 +1,6 @@
 // Tests of programs and of the plain machine, on examples and at their limits.
+#![tactic(auto)]
+
 #[cfg(test)]
 mod build;
 #[cfg(test)]

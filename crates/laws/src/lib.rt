@@ -1,4 +1,6 @@
 // Laws of all runs of a task. Each function stands for one law: its contract is the law, so that the check asks for the proof.
+#![tactic(auto)]
+
 ghost use Rattle.laws.specs.Again.{TakesAPath, PathsShort, EmitsCounted, KeepsUnwritten, LoggedTested, UnloggedUnread, RunsAgain, EndsAgain};
 ghost use Rattle.laws.specs.Endings.{EndsOnce};
 ghost use Rattle.laws.specs.Views.{ViewsStep, ViewsRun};

@@ -1,4 +1,6 @@
 // Takes one lending rule through one visit of the plain machine, and tells what was done.
+#![tactic(auto)]
+
 use anyhow::anyhow;
 use plain::machine::Machine;
 use plain::visit::Visit;

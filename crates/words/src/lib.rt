@@ -1,2 +1,4 @@
 // Short lists of 16-bit words with a fixed capacity.
+#![tactic(auto)]
+
 pub mod list;

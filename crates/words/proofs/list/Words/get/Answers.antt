@@ -5,4 +5,4 @@ use Rattle.words.proofs.list.Words.get.Goals as goal
 
 pub returns-in-None : goal.returns-in-None
 returns-in-None g c =
-    sym (get_or_past c.as-slice.result.now c.args.place 0 c.in-None.ensures.finds.3) ∙ ap (λ l. get_or l c.args.place 0) c.as-slice.ensures
+    sym (get_or_past c.as_slice.result.now c.args.place 0 c.in-None.ensures.lookup.3) ∙ ap (λ l. get_or l c.args.place 0) c.as_slice.ensures
