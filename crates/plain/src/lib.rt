@@ -2,6 +2,6 @@
 #![tactic(auto)]
 
 mod frame;
-pub mod laws;
 pub mod machine;
 pub mod visit;
+pub mod visit_laws;

@@ -12,7 +12,7 @@ use words::list::Words;
 
 // The operator's result. Sum and difference wrap; a divisor 0 gives 0.
 fn calculate(operator: Operator, left: u16, right: u16) -> u16
-    ensures* { λ r. ⌜ r ≡ result_of operator left right ⌝ }
+    ensures { result ≡ result_of operator left right }
 {
     match operator {
         Operator::Plus => left.wrapping_add(right),
@@ -26,7 +26,7 @@ fn calculate(operator: Operator, left: u16, right: u16) -> u16
 }
 
 fn compare(comparison: Comparison, left: u16, right: u16) -> bool
-    ensures* { λ r. ⌜ r ≡ compares comparison left right ⌝ }
+    ensures { result ≡ compares comparison left right }
 {
     match comparison {
         Comparison::Equal => left == right,
@@ -37,7 +37,7 @@ fn compare(comparison: Comparison, left: u16, right: u16) -> bool
 impl Frame {
     // What a visit begins with: the locals 0, the record empty.
     pub(crate) fn new(row: &[u16; 8], variables: Words<48>) -> Frame
-        ensures* { λ r. ⌜ run_of r ≡ begun row.now (items variables) ⌝ }
+        ensures { run_of result ≡ begun row.now (items variables) }
     {
         Frame {
             inputs: *row,
@@ -49,7 +49,7 @@ impl Frame {
     }
 
     pub(crate) fn value(&self, operand: Operand) -> u16
-        ensures* { λ r. ⌜ r ≡ value (run_of self.now) operand ⌝ }
+        ensures { result ≡ value (run_of self.now) operand }
     {
         match operand {
             Operand::Number(number) => number,
@@ -60,7 +60,7 @@ impl Frame {
     }
 
     fn holds(&self, test: Test) -> bool
-        ensures* { λ r. ⌜ r ≡ holds (run_of self.now) test ⌝ }
+        ensures { result ≡ holds (run_of self.now) test }
     {
         compare(
             test.comparison,
@@ -70,7 +70,7 @@ impl Frame {
     }
 
     fn assign(&mut self, target: Target, word: u16)
-        ensures* { λ _. ⌜ run_of self.new ≡ assign target word (run_of self.old) ⌝ }
+        ensures { run_of self.new ≡ assign target word (run_of self.old) }
     {
         match target {
             Target::Variable(variable) => self.variables.set(variable.number() as usize, word),
@@ -80,7 +80,7 @@ impl Frame {
 
     // How many statements behind it are passed over.
     pub(crate) fn passes(&self, statement: Statement) -> u8
-        ensures* { λ r. ⌜ r ≡ passes statement (run_of self.now) ⌝ }
+        ensures { result ≡ passes statement (run_of self.now) }
     {
         match statement {
             Statement::Skip { reach, test } => { if self.holds(test) { reach.count() } else { 0 } }
@@ -91,7 +91,7 @@ impl Frame {
     // The statement's work, for which the record has room.
     pub(crate) fn work(&mut self, statement: Statement)
         requires { length (items self.old.emitted) + emits statement ≤ 8 }
-        ensures* { λ _. ⌜ run_of self.new ≡ after statement (run_of self.old) ⌝ }
+        ensures { run_of self.new ≡ after statement (run_of self.old) }
     {
         match statement {
             Statement::Stop => self.chosen = Next::Stopped,

@@ -7,11 +7,11 @@ use Rattle.laws.proofs.Paths.{takes_a_path}
 use Rattle.plain.specs.Frames.{run_of}
 use Rattle.plain.proofs.visit.Visit.new.Goals as goal
 
-pub invariant-of-result : goal.invariant-of-result
-invariant-of-result c =
+pub invariant_of-result : goal.invariant_of-result
+invariant_of-result c =
     let p = c.args.program.now in
     let t = c.args.task.number in
     let σ = run_of c.new-frame.result in
     let none = ap (λ r. length r.emitted) c.new-frame.ensures in
     let few = path_few p t _ (takes_a_path 0 (task_of (program_source p) t) σ) in
-    (omega arith, tt)
+    record { room = omega arith }

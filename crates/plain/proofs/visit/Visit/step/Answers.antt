@@ -16,19 +16,19 @@ task_in v = task_of (program_source v.program.now) v.task.number
 pub work-requires : goal.work-requires
 work-requires c =
     let v = c.args.self.now in
-    room_here (task_in v) v.at v.frame c.in-ok-statement.statement (sym c.in-ok-statement.ensures) v.room
+    room_here (task_in v) v.at v.frame c.in_ok-statement.statement (sym c.in_ok-statement.ensures) v.room
 
-pub overflow-add-self-2 : goal.overflow-add-self-2
-overflow-add-self-2 c =
+pub overflow_add-self-2 : goal.overflow_add-self-2
+overflow_add-self-2 c =
     let v = c.args.self.now in
-    let s = c.in-ok-statement.statement in
-    let here = nth_some (task_in v) v.at s s (sym c.in-ok-statement.ensures) in
+    let s = c.in_ok-statement.statement in
+    let here = nth_some (task_in v) v.at s s (sym c.in_ok-statement.ensures) in
     let short = task_short v.program.now v.task.number in
     omega arith
 
-pub invariant-of-self : goal.invariant-of-self
-invariant-of-self c =
+pub invariant_of-self : goal.invariant_of-self
+invariant_of-self c =
     let v = c.args.self.now in
-    let s = c.in-ok-statement.statement in
+    let s = c.in_ok-statement.statement in
     let on : v.at + (1 + c.passes-over.result) ≡ v.at + 1 + passes s (run_of v.frame) = omega (arith, c.passes-over.ensures) in
-    (room_on (task_in v) v.at v.frame s (sym c.in-ok-statement.ensures) v.room c.work.new.self _ c.work.ensures on, tt)
+    record { room = room_on (task_in v) v.at v.frame s (sym c.in_ok-statement.ensures) v.room c.work.new.self _ c.work.ensures on }

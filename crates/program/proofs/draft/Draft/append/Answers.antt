@@ -15,16 +15,16 @@ listed c = let all = total_count c.args.self.now in let full = c.args.self.now.f
 pub bounds-self-self : goal.bounds-self-self
 bounds-self-self c = let all = total_count c.args.self.now in omega arith
 
-pub overflow-add-self : goal.overflow-add-self
-overflow-add-self c =
+pub overflow_add-self : goal.overflow_add-self
+overflow_add-self c =
     let d = c.args.self.now in
     let many = tasks_count d in
     let e : d.tasks ≡ d.tasks - 1 + 1 = omega arith in
     let size = last_size d (d.tasks - 1) e none in
     omega arith
 
-pub invariant-of-self : goal.invariant-of-self
-invariant-of-self c =
+pub invariant_of-self : goal.invariant_of-self
+invariant_of-self c =
     let d = c.args.self.now in
     let many = tasks_count d in
     let all = total_count d in
@@ -40,8 +40,14 @@ invariant-of-self c =
     let sum = sizes_last d.spans k x h d.tasks e in
     let before = sizes_here d k e none in
     let inside = inside_last d.spans k x h d.tasks e d.count (d.count + 1) (λ t z l. d.inside t z (omega arith)) (omega arith) (omega arith) (omega arith) in
-    let open-end = open_last d.spans k x h d.tasks e (d.count + 1) (omega arith) in
-    (omega arith, ((length-set d.table _ _ ∙ full.0, length-set d.spans k x ∙ full.1), (inside, (open-end, (omega arith, tt)))))
+    let open_end = open_last d.spans k x h d.tasks e (d.count + 1) (omega arith) in
+    record {
+      few = omega arith;
+      full = (length-set d.table _ _ ∙ full.0, length-set d.spans k x ∙ full.1);
+      inside = inside;
+      last = open_end;
+      whole = omega arith;
+    }
 
 pub returns : goal.returns
 returns c =

@@ -6,8 +6,8 @@ use Rattle.program.proofs.Spans.{inside_last, open_last, sizes_last}
 use Rattle.program.proofs.Drafts.{tasks_count, opened, with_tasks}
 use Rattle.program.proofs.draft.Draft.open.Goals as goal
 
-pub invariant-of-self : goal.invariant-of-self
-invariant-of-self c =
+pub invariant_of-self : goal.invariant_of-self
+invariant_of-self c =
     let d = c.args.self.now in
     let few = d.few in
     let full = d.full in
@@ -18,8 +18,14 @@ invariant-of-self c =
     let sum = sizes_last d.spans d.tasks x h (d.tasks + 1) one in
     let whole = d.whole in
     let inside = inside_last d.spans d.tasks x h (d.tasks + 1) one d.count d.count d.inside (omega arith) (omega arith) (omega arith) in
-    let open-end = open_last d.spans d.tasks x h (d.tasks + 1) one d.count (omega arith) in
-    (omega arith, ((full.0, length-set d.spans d.tasks x ∙ full.1), (inside, (open-end, (omega arith, tt)))))
+    let open_end = open_last d.spans d.tasks x h (d.tasks + 1) one d.count (omega arith) in
+    record {
+      few = omega arith;
+      full = (full.0, length-set d.spans d.tasks x ∙ full.1);
+      inside = inside;
+      last = open_end;
+      whole = omega arith;
+    }
 
 pub returns : goal.returns
 returns c =

@@ -4,10 +4,10 @@ use Rattle.program.proofs.Drafts.{tasks_count}
 use Rattle.program.proofs.Programs.{all_checked}
 use Rattle.program.proofs.program.Program.new.Goals as goal
 
-pub task-sound-requires : goal.task-sound-requires
-task-sound-requires c = let many = tasks_count c.args.draft in omega arith
+pub task_sound-requires : goal.task_sound-requires
+task_sound-requires c = let many = tasks_count c.args.draft in omega arith
 
-pub invariant-of-result : goal.invariant-of-result
-invariant-of-result c =
+pub invariant_of-result : goal.invariant_of-result
+invariant_of-result c =
     let many = tasks_count c.args.draft in
-    (all_checked c.args.draft (omega arith) (λ u h. c.loop-number.invariant u (omega arith)), tt)
+    record { checked = all_checked c.args.draft (omega arith) (λ u h. c.loop-number.invariant u (omega arith)) }

@@ -3,5 +3,5 @@ use Rattle.std.proofs.Common.{arith}
 use lib.ListN.{length-replicate}
 use Rattle.words.proofs.list.Words.new.Goals as goal
 
-pub invariant-of-result : goal.invariant-of-result
-invariant-of-result g c = (length-replicate g.row.N 0, (omega arith, tt))
+pub invariant_of-result : goal.invariant_of-result
+invariant_of-result g c = record { full = length-replicate g.row.N 0; within = omega arith }
