@@ -4,7 +4,7 @@ use Rattle.std.specs.List.{flat_map}
 use Rattle.std.proofs.lemmas.Bool.{cases_Bool, false≢true, or_parts, or_cases, or_from, or_left, or_right, and_parts, and_from, not-true, not_from_false}
 use Rattle.program.specs.declared.statement.Statement.{Statement}
 use Rattle.program.specs.Shapes.{some, ways}
-use Rattle.program.specs.Runs.{Run, holds, after, passes, taken}
+use Rattle.program.specs.Runs.{Run, holds, after, passes}
 use Rattle.program.specs.Paths.{paths, ◌∈◌, reads, writes, written, read_first, LoggedOn}
 use Rattle.laws.specs.Again.{TakesAPath, PathsShort, LoggedTested, UnloggedUnread}
 

@@ -1,5 +1,5 @@
 -- A run on a split store: working copies for a set of variables, the logged ones, and memory for the others. The view is what a statement sees.
-use Rattle.std.specs.Prelude.{◌≡◌, ℕ, zero, suc, ◌≤◌, Bool, cond, List, [], ◌∷◌, ◌++◌, length, set, slice_set}
+use Rattle.std.specs.Prelude.{◌≡◌, ℕ, zero, suc, ◌≤◌, Bool, cond, List, [], ◌∷◌, ◌++◌, length, slice_set}
 use Rattle.program.specs.declared.statement.Target.{Target}
 use Rattle.program.specs.declared.statement.Next.{Next}
 use Rattle.program.specs.declared.statement.Statement.{Statement}
