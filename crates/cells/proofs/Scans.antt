@@ -1,9 +1,8 @@
 -- Looking at the cells of every word, for what is in doubt in a memory that is made.
-use Rattle.std.proofs.Common.{◌≡◌, ℕ, zero, suc, ◌+◌, ◌<◌, ◌≤◌, true, not, eqb, ◌≢◌, ◌⊎◌, List, [], ◌∷◌, is_some, Some, None, Ok, Err, Option, Result, sym, refl, ap, ◌∙◌, subst, inl, inr, ⊎_elim, add-one, arith}
+use Rattle.std.proofs.Common.{◌≡◌, ℕ, zero, suc, ◌+◌, ◌<◌, ◌≤◌, true, not, eqb, ◌≢◌, List, [], ◌∷◌, is_some, Some, None, Ok, Err, Option, Result, sym, refl, ap, ◌∙◌, subst, inl, inr, ⊎_elim, add-one, arith}
 use Rattle.std.proofs.lemmas.Bool.{cases_eq, eqb-true, false≢true}
 use Rattle.memory.specs.declared.doubt.Doubt.{Doubt}
 use Rattle.memory.specs.declared.fault.Unmade.{Unmade}
-use Rattle.memory.specs.declared.fault.Unmade.TheVariants as unmade
 use Rattle.memory.specs.Value.{Limits, MayHold, MayHoldIn, Value}
 use Rattle.cells.specs.Triple.{Equal, To, mends}
 use Rattle.cells.specs.Cells.{thirds, triple_at}

@@ -1,5 +1,5 @@
 -- Three cells of any unit through a cut: what is under way reads as the old unit or the new, and each store that mends it keeps it so.
-use Rattle.std.proofs.Common.{◌≡◌, Bool, true, false, ◌⊎◌, [], sym, refl, ◌∙◌, subst, inl, inr, ⊎_elim}
+use Rattle.std.proofs.Common.{◌≡◌, Bool, true, false, [], sym, refl, ◌∙◌, subst, inl, inr, ⊎_elim}
 use Rattle.std.proofs.lemmas.Bool.Decides.{not_from_Decides}
 use Rattle.cells.specs.declared.triple.Triple.{Triple}
 use Rattle.cells.specs.Triple.{Either, Equal, Underway, mends, mending, reads, stores, to_all, vote}

@@ -25,14 +25,14 @@ pub enum Repair<T> {
 impl<T: PartialEq + Copy> Triple<T> {
     // B if B equals C, otherwise A.
     pub fn value(&self) -> T
-        ensures { ReadAs (λ x' y' r'. r' ≡ T.PartialEq.eq x' y') self.now result }
+        ensures { ReadAs (λ x y r. r ≡ T.PartialEq.eq x y) self.now result }
     {
         if self.b == self.c { self.b } else { self.a }
     }
 
     // If B equals C and A differs, B goes to A. If B and C differ, A goes to B unless they are equal, and then to C.
     pub fn repair(&self) -> Repair<T>
-        ensures { MendedBy (λ x' y' r'. r' ≡ T.PartialEq.eq x' y') self.now result }
+        ensures { MendedBy (λ x y r. r ≡ T.PartialEq.eq x y) self.now result }
     {
         match (self.b == self.c, self.a == self.b) {
             (true, true) => Repair::Nothing,
