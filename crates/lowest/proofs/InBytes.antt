@@ -9,8 +9,8 @@ module _ (bytes : List ℕ) where
   pub length_words : length (words_in bytes) ≡ length bytes / 2
   length_words = length-map-range_with_len (word_at bytes) 0 (length bytes / 2)
 
-  pub get_d_words : (p : ℕ) → p < length bytes / 2 → get_or (words_in bytes) p 0 ≡ word_at bytes p
-  get_d_words p h = get_or-map-range_with_len (word_at bytes) 0 (length bytes / 2) p p 0 h (omega arith)
+  pub get_or_words : (p : ℕ) → p < length bytes / 2 → get_or (words_in bytes) p 0 ≡ word_at bytes p
+  get_or_words p h = get_or-map-range_with_len (word_at bytes) 0 (length bytes / 2) p p 0 h (omega arith)
 
   pub past_words : (p : ℕ) → length bytes / 2 ≤ p → get_or (words_in bytes) p 0 ≡ 0
   past_words p h = let n = length_words in get_or_past (words_in bytes) p 0 (omega arith)
@@ -53,10 +53,10 @@ module _ (bytes : List ℕ) (p w : ℕ) (h : p < length bytes / 2) where
       let inside : p < length (words_in bytes) = omega arith in
       ext_get_or 0 (words_in (with_word bytes p w)) (set (words_in bytes) p w) (omega arith)
       (λ k k_in.
-      get_d_words (with_word bytes p w) k (omega arith)
+      get_or_words (with_word bytes p w) k (omega arith)
       ∙ ⊎_elim
       (λ e. rw e (word_same ∙ sym (get_or-set_same (words_in bytes) p w 0 inside)))
-      (λ ne. word_other k ne ∙ sym (get_d_words bytes k (omega arith)) ∙ sym (get_or-set_other (words_in bytes) p k w 0 ne))
+      (λ ne. word_other k ne ∙ sym (get_or_words bytes k (omega arith)) ∙ sym (get_or-set_other (words_in bytes) p k w 0 ne))
       (cases_eq k p))
 
 -- words that are equal have equal bytes
@@ -73,7 +73,7 @@ module _ (xs ys : List ℕ) (even : none_over xs ≡ true) (also : none_over ys 
   same_word : (k : ℕ) → k < length xs / 2 → word_at xs k ≡ word_at ys k
   same_word k h =
       let l = same_length in
-      sym (get_d_words xs k h) ∙ ap (λ (ws : List ℕ). get_or ws k 0) same ∙ get_d_words ys k (omega arith)
+      sym (get_or_words xs k h) ∙ ap (λ (ws : List ℕ). get_or ws k 0) same ∙ get_or_words ys k (omega arith)
 
   same_byte : (i : ℕ) → i < length xs → get_or xs i 0 ≡ get_or ys i 0
   same_byte i h =

@@ -1,5 +1,5 @@
 -- A lowest memory as a value, by what its buffer means.
-use Rattle.std.specs.Prelude.{◌≡◌, ℕ, ◌<◌, ◌≤◌, true, false, List, length, set, None, Ok, Err, Result, slice_index, slice_index_or, slice_set}
+use Rattle.std.specs.Prelude.{◌≡◌, ℕ, ◌<◌, ◌≤◌, true, false, List, length, None, Ok, Err, Result, slice_index, slice_set}
 use Rattle.memory.specs.declared.fault.Fault.{Fault}
 use Rattle.memory.specs.declared.fault.Fault.TheVariants.{Cut, Dark, Outside}
 use Rattle.memory.specs.declared.fault.Unfit.{Unfit}
@@ -74,8 +74,8 @@ module _ {B : Type 0} (buffer : Ghosts B) where
   -- a word put at a place; with the word that stood there put back, the buffer holds what it held
   pub record Put (before : B) (p w : ℕ) (after : B) : Type 0 where
     pub held : buffer.held after ≡ slice_set (buffer.held before) p w
-    pub there : slice_index_or (buffer.held after) p 0 ≡ w
-    pub back : set (buffer.held after) p (slice_index (buffer.held before) p) ≡ buffer.held before
+    pub there : slice_index (buffer.held after) p ≡ w
+    pub back : slice_set (buffer.held after) p (slice_index (buffer.held before) p) ≡ buffer.held before
     pub same : buffer.buffer after ≡ buffer.buffer before
     pub even : buffer.even after ≡ buffer.even before
 

@@ -1,5 +1,5 @@
 -- What faults and a memory's value come to on examples.
-use Rattle.std.specs.Prelude.{◌≡◌, ℕ, ◌+◌, ◌*◌, Bool, true, false, List, [], ◌∷◌, Some, None, Ok, Err}
+use Rattle.std.specs.Prelude.{◌≡◌, ℕ, ◌+◌, ◌*◌, Bool, true, false, [], ◌∷◌, Some, None, Ok, Err}
 use Rattle.memory.specs.declared.fault.Cut.{Cut}
 use Rattle.memory.specs.declared.fault.Fault.TheVariants as fault
 use Rattle.memory.specs.declared.fault.Unmade.TheVariants as unmade

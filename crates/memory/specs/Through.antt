@@ -1,5 +1,5 @@
 -- A word stored through a cut.
-use Rattle.std.specs.Prelude.{◌≡◌, ℕ, true, ◌≢◌, ◌⊎◌, Some, None, Ok, Err, Option, Result, slice_index, slice_index_or}
+use Rattle.std.specs.Prelude.{◌≡◌, ℕ, true, ◌≢◌, ◌⊎◌, Some, None, Ok, Err, Option, Result, slice_index}
 use Rattle.memory.specs.declared.fault.Cut.{Cut}
 use Rattle.memory.specs.declared.fault.Fault.{Fault}
 use Rattle.memory.specs.declared.through.Stood.{Stood}
@@ -21,7 +21,7 @@ pub record StandsThrough (v : Value) (p w charge : ℕ) (s : Stood) (after : Val
   pub lit : after.lit ≡ true
   pub cut : s.cut ≡ cut_of (write_answer v p)
   pub value : AfterStore v p w charge s.cut after
-  pub here : slice_index_or after.words p 0 ≡ s.word
+  pub here : slice_index after.words p ≡ s.word
   pub old_or_new : v.kind.whole ≡ true → (s.word ≡ w) ⊎ (s.word ≡ slice_index v.words p)
   pub others : (k : ℕ) → k ≢ p → slice_index after.words k ≡ slice_index v.words k
   pub kind : after.kind ≡ v.kind
