@@ -7,7 +7,7 @@ use Rattle.three_cell.proofs.memories.count.Goals as goal
 
 pub returns : goal.returns
 returns g c = record {
-  few = let fits = c.len.type-inv in omega arith;
+  few = let fits = c.len.type_inv in omega arith;
   words = λ l.
       let words = (g.M.Memory.seen c.args.below.now).words in
       let n = ap (λ k. k / 3) (c.len.ensures l) in
