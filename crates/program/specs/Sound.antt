@@ -1,5 +1,5 @@
 -- What a program says as a value, and when it is well formed.
-use Rattle.std.specs.Prelude.{ℕ, ◌+◌, ◌-◌, Bool, true, cond, not, ◌&&◌, ltb, leb, List, [], ◌∷◌, length, ◌==◌, nat_le, nat_lt, slice_index_or}
+use Rattle.std.specs.Prelude.{ℕ, ◌+◌, ◌-◌, Bool, true, cond, not, ◌&&◌, List, [], ◌∷◌, length, ◌==◌, nat_le, nat_lt, slice_index_or}
 use Rattle.program.specs.declared.statement.Operand.{Operand}
 use Rattle.program.specs.declared.statement.Target.{Target}
 use Rattle.program.specs.declared.statement.Statement.{Statement}
@@ -26,11 +26,11 @@ target_declared V L (Target.Local l) = nat_lt l.number L
 
 -- what the statement names is declared among V variables, L locals and T tasks
 abbrev pub declared : ℕ → ℕ → ℕ → Statement → Bool
-declared V L T s = list_all (operand_declared V L) (operands s) && (list_all (target_declared V L) (targets s) && list_all (λ t. ltb t.number T) (choices s))
+declared V L T s = list_all (operand_declared V L) (operands s) && (list_all (target_declared V L) (targets s) && list_all (λ t. nat_lt t.number T) (choices s))
 
 -- With n statements behind it: the last is an ending and no other is, and a skip leads at most to the ending.
 abbrev pub placed : Statement → ℕ → Bool
-placed s n = cond (n == 0) (ending s) (not (ending s)) && list_all (λ k. leb k (n - 1)) (ways s)
+placed s n = cond (n == 0) (ending s) (not (ending s)) && list_all (λ k. nat_le k (n - 1)) (ways s)
 
 abbrev pub all_placed : ℕ → ℕ → ℕ → List Statement → Bool
 all_placed V L T [] = true
@@ -38,7 +38,7 @@ all_placed V L T (s ∷ rest) = (declared V L T s && placed s (length rest)) && 
 
 -- no path adds more than eight words to the record
 abbrev pub few_emits : List Statement → Bool
-few_emits task = list_all (λ π. leb (emitted_on π) 8) (paths 0 task)
+few_emits task = list_all (λ π. nat_le (emitted_on π) 8) (paths 0 task)
 
 -- A well-formed task has 1 to 64 statements.
 abbrev pub task_sound : ℕ → ℕ → ℕ → List Statement → Bool
