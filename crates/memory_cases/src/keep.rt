@@ -23,3 +23,24 @@ pub fn through_a_cut(word: u16) -> anyhow::Result<Stood>
         Err(_) => Err(anyhow!("the store was refused")),
     }
 }
+
+#[cfg(test)]
+mod tests {
+    use super::*;
+    use memory::fault::Cut;
+
+    // Cut at the second cell, where the scrap then stands, it is mended from the first.
+    #[test]
+    fn kept_through_a_cut(rt: HostRuntime) -> anyhow::Result<()> {
+        let stood = through_a_cut(114)?;
+        assert_eq!(rt; stood.word, 114);
+        assert_eq!(rt;
+            stood.cut,
+            Some(Cut {
+                place: 1,
+                layers: 1,
+            })
+        );
+        Ok(())
+    }
+}

@@ -19,11 +19,11 @@ zero_before seen image below buffer doubt is made same =
     let none : doubt ≡ None = cc in
     rw (none, same, is) refl
 
-pub returns-in-Ok-write-through : goal.returns-in-Ok-write-through
-returns-in-Ok-write-through c =
+pub returns-in-Ok-write_through : goal.returns-in-Ok-write_through
+returns-in-Ok-write_through c =
     let made = c.in-Ok.ensures in
     let three = c.in-Ok-new.ensures in
     let l = three.2 made.lawful in
-    let stood = (c.in-Ok-write-through.ensures.through l.1).1 in
+    let stood = (c.in-Ok-write_through.ensures.through l.1).1 in
     let zero = zero_before (seen_by ghosts) c.in-Ok.image c.in-Ok-new.cells.below _ c.in-Ok-new.cells.doubt made.seen l.0 three.0 in
-    subst (λ n. (c.in-Ok-write-through.stood.word ≡ c.args.word) ⊎ (c.in-Ok-write-through.stood.word ≡ n)) zero (stood.old_or_new refl)
+    subst (λ n. (c.in-Ok-write_through.stood.word ≡ c.args.word) ⊎ (c.in-Ok-write_through.stood.word ≡ n)) zero (stood.old_or_new refl)
