@@ -71,8 +71,8 @@ triple_puts (s ∷ rest) words p h =
     triple_puts rest (set words (place_of s.cell p) s.unit) p (omega arith)
     ∙ ap (λ (t : Triple ℕ). puts t rest) (triple_put s.cell words p s.unit h)
 
-pub get_d_words : (words : List ℕ) (k : ℕ) → k < length words / 3 → get_or (words_of words) k 0 ≡ word_of words k
-get_d_words words k h = get_or-map-range_with_len (word_of words) 0 (length words / 3) k k 0 h (omega arith)
+pub get_or_words : (words : List ℕ) (k : ℕ) → k < length words / 3 → get_or (words_of words) k 0 ≡ word_of words k
+get_or_words words k h = get_or-map-range_with_len (word_of words) 0 (length words / 3) k k 0 h (omega arith)
 
 module _ (p : ℕ) (words words' : List ℕ) (s : SameBut p words words') where
   off_word : (k : ℕ) → k ≢ p → word_of words' k ≡ word_of words k
@@ -93,11 +93,11 @@ module _ (p : ℕ) (words words' : List ℕ) (s : SameBut p words words') where
       (λ ne.
       let k' : k < length words' / 3 = omega arith in
       let k'' : k < length words / 3 = omega arith in
-      get_or-set_other (words_of words') p k x 0 ne ∙ get_d_words words' k k' ∙ off_word k ne ∙ sym (get_d_words words k k'') ∙ sym (get_or-set_other (words_of words) p k x 0 ne))
+      get_or-set_other (words_of words') p k x 0 ne ∙ get_or_words words' k k' ∙ off_word k ne ∙ sym (get_or_words words k k'') ∙ sym (get_or-set_other (words_of words) p k x 0 ne))
       (cases_eq k p))
 
   -- word p is new
   pub words_new : (x : ℕ) → p < length words / 3 → word_of words' p ≡ x → words_of words' ≡ set (words_of words) p x
   words_new x h e =
       let h' : p < length words' / 3 = subst (λ n. p < n / 3) (sym s.long) h in
-      sym (set-get_or (words_of words') p 0) ∙ ap (set (words_of words') p) (get_d_words words' p h' ∙ e) ∙ words_set x
+      sym (set-get_or (words_of words') p 0) ∙ ap (set (words_of words') p) (get_or_words words' p h' ∙ e) ∙ words_set x

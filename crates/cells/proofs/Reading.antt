@@ -7,7 +7,7 @@ use Rattle.memory.specs.Value.{Value}
 use Rattle.cells.specs.declared.triple.Triple.{Triple}
 use Rattle.cells.specs.Triple.{ReadAs, reads, vote}
 use Rattle.cells.specs.Cells.{thirds, triple_at, words_of}
-use Rattle.cells.proofs.CellLists.{get_d_words}
+use Rattle.cells.proofs.CellLists.{get_or_words}
 
 -- the comparison of numbers is the test of equality
 read_as : (t : Triple ℕ) (r : ℕ) → ReadAs (λ (x y : ℕ) (b : Bool). b ≡ eqb x y) t r → r ≡ reads eqb t
@@ -25,4 +25,4 @@ module _ (v : Value) (p : ℕ) (r : Result (Triple ℕ) Fault) (lit : v.lit ≡ 
   word_read t x went read =
       let good = cells_read in
       let same : t ≡ triple_at v.words p = cc in
-      read_as t x read ∙ ap (reads eqb) same ∙ sym (get_d_words v.words p h)
+      read_as t x read ∙ ap (reads eqb) same ∙ sym (get_or_words v.words p h)

@@ -16,7 +16,7 @@ use Rattle.cells.specs.Three.{Follows, StoredAbove, ThreeLawful, raised, three_k
 use Rattle.cells.specs.Laws.{ThreeStoresAreOne}
 use Rattle.cells.specs.Members.{length_words}
 use Rattle.cells.proofs.Triples.{safe_all}
-use Rattle.cells.proofs.CellLists.{get_d_words, same_sets, sets, triple_puts, words_new, words_set}
+use Rattle.cells.proofs.CellLists.{get_or_words, same_sets, sets, triple_puts, words_new, words_set}
 use Rattle.cells.proofs.Lawful.{stored_lawful, torn_lawful}
 use Rattle.cells.proofs.Stores.{Torn, cells_of, lit_is, lit_value, ran}
 
@@ -53,7 +53,7 @@ module _ (words : List ℕ) (charge : ℕ) (kind : Kind) (few : kind.layers ≤ 
   in_above = rw (length_words words) within
 
   old_is : (triple_at words p).b ≡ old
-  old_is = sym (get_d_words words p within ∙ reads_same (triple_at words p) (equal_all p within).1)
+  old_is = sym (get_or_words words p within ∙ reads_same (triple_at words p) (equal_all p within).1)
 
   abbrev after_all : List ℕ
   after_all = sets words p (to_all w)
