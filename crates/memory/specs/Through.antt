@@ -1,5 +1,5 @@
 -- A word stored through a cut.
-use Rattle.std.specs.Prelude.{◌≡◌, ℕ, true, ◌≢◌, ◌⊎◌, Some, None, Ok, Err, Option, Result, slice_index}
+use Rattle.std.specs.Prelude.{◌≡◌, ℕ, true, ◌≢◌, ◌⊎◌, Some, None, Ok, Err, Option, Result, IsSome, slice_index}
 use Rattle.memory.specs.declared.fault.Cut.{Cut}
 use Rattle.memory.specs.declared.fault.Fault.{Fault}
 use Rattle.memory.specs.declared.through.Stood.{Stood}
@@ -26,10 +26,20 @@ pub record StandsThrough (v : Value) (p w charge : ℕ) (s : Stood) (after : Val
   pub others : (k : ℕ) → k ≢ p → slice_index after.words k ≡ slice_index v.words k
   pub kind : after.kind ≡ v.kind
 
--- Refused, nothing has altered; or the store was cut, and so was the relight.
+-- The store was refused, and nothing has altered. A cut is no such refusal.
+pub record IsRefused (v : Value) (p : ℕ) (e : Fault) (after : Value) : Type 0 where
+  pub answer : write_answer v p ≡ Err e
+  pub uncut : (told e).carried ≡ None
+  pub same : after ≡ v
+
+-- The store was cut, and so was the relight.
+pub record IsCutTwice (v : Value) (p w charge : ℕ) (e : Fault) (after : Value) : Type 0 where
+  pub first : IsSome (cut_of (write_answer v p))
+  pub second : Relights (cut_short v p w) charge (Err e) after
+
 abbrev pub Through : Value → ℕ → ℕ → ℕ → Result Stood Fault → Value → Type 0
 Through v p w charge (Ok s) after = StandsThrough v p w charge s after
-Through v p w charge (Err e) after = ((Err e ≡ write_answer v p) × (after ≡ v)) ⊎ Relights (cut_short v p w) charge (Err e) after
+Through v p w charge (Err e) after = IsRefused v p e after ⊎ IsCutTwice v p w charge e after
 
 -- The last scrap given: as it was, or that of the relight where the store was cut.
 abbrev pub Gives : {M : Type 0} → (M → ℕ → Type 0) → M → ℕ → Result Stood Fault → M → Type 0
