@@ -1,2 +1,2 @@
 -- Lemmas of lists of words.
-pub mod Kept
+pub mod Held

@@ -1,6 +1,6 @@
 // What a list of words answers and how it grows.
 ghost use Rattle.std.specs.Prelude.{◌≡◌, ◌≤◌, [], length, is_ok, nat_lt, slice_index, slice_set};
-ghost use Rattle.words.specs.Lists.{items, pushed};
+ghost use Rattle.words.specs.Lists.{pushed};
 
 use crate::list::Words;
 
@@ -11,7 +11,7 @@ pub struct Full;
 impl<const N: usize> Words<N> {
     // No words.
     pub fn new() -> Words<N>
-        ensures { items result ≡ [] }
+        ensures { result ≡ [] }
     {
         Words {
             words: [0; N],
@@ -21,14 +21,15 @@ impl<const N: usize> Words<N> {
 
     // The words.
     pub fn as_slice(&self) -> &[u16]
-        ensures { result.now ≡ items self.now }
+        ensures value { result.now ≡ self.now }
+        ensures bound { length result.now ≤ N }
     {
         &(&self.words[..])[0..self.count]
     }
 
     // How many words there are.
     pub fn len(&self) -> usize
-        ensures value { result ≡ length (items self.now) }
+        ensures value { result ≡ length self.now }
         ensures bound { result ≤ N }
     {
         self.as_slice().len()
@@ -36,17 +37,14 @@ impl<const N: usize> Words<N> {
 
     // The word at a place, 0 past the last.
     pub fn get(&self, place: usize) -> u16
-        ensures { result ≡ slice_index (items self.now) place }
+        ensures { result ≡ slice_index self.now place }
     {
-        match self.as_slice().get(place) {
-            Some(word) => *word,
-            None => 0,
-        }
+        self.as_slice().get(place).copied().unwrap_or(0)
     }
 
     // Puts a word in place of the one there; past the last it alters nothing.
     pub fn set(&mut self, place: usize, word: u16)
-        ensures { items self.new ≡ slice_set (items self.old) place word }
+        ensures { self.new ≡ slice_set self.old place word }
     {
         if place < self.len() {
             self.words[place] = word;
@@ -55,8 +53,8 @@ impl<const N: usize> Words<N> {
 
     // One word more at the end, if there is room.
     pub fn push(&mut self, word: u16) -> Result<(), Full>
-        ensures answer { is_ok result ≡ nat_lt (length (items self.old)) N }
-        ensures after { items self.new ≡ pushed N (items self.old) word }
+        ensures answer { is_ok result ≡ nat_lt (length self.old) N }
+        ensures after { self.new ≡ pushed N self.old word }
     {
         let count = self.len();
         if count >= N {

@@ -1,14 +1,11 @@
 -- `Words::push`: what the search leaves to show.
-use Rattle.std.proofs.Common.{length, sym, arith}
-use Rattle.std.proofs.lemmas.Bool.{lt-ltb}
-use Rattle.words.specs.Lists.{items}
-use Rattle.words.proofs.Kept.{push_room}
+use Rattle.std.proofs.Common.{◌≡◌, length, ap, sym, ◌∙◌, arith}
+use Rattle.words.specs.Lists.{length_held}
+use Rattle.words.proofs.Held.{holds_more}
 use Rattle.words.proofs.list.Words.push.Goals as goal
 
-pub returns : goal.returns
-returns g c =
-    let long = c.len-count.ensures.value in
-    record {
-      answer = sym (lt-ltb (length (items c.args.self.now)) g.row.N (omega arith));
-      after = push_room c.args.self.now c.len-count.result c.args.word long (omega arith);
-    }
+pub invariant_of-self : goal.invariant_of-self
+invariant_of-self g c =
+    let w = c.self.inside in
+    let n : c.len-count.result ≡ w.count = c.len-count.ensures.value ∙ sym (ap length c.self.view_is) ∙ length_held g.row.N w.count w.words c.self.invariant in
+    rw n (holds_more g.row.N w.count w.words c.args.word c.self.invariant (omega arith))
