@@ -2,7 +2,6 @@
 use Rattle.std.proofs.Common.{◌≡◌, ℕ, zero, suc, ◌+◌, ◌-◌, ◌<◌, ◌≤◌, List, [], ◌∷◌, length, get_or, drop, Some, None, sym, ap, ◌∙◌, subst, ap₂, arith}
 use Rattle.std.specs.List.{slice_get}
 use Rattle.std.proofs.lemmas.List.{drop_all}
-use Rattle.words.specs.Lists.{items}
 use Rattle.program.specs.declared.statement.Statement.{Statement}
 use Rattle.program.specs.Shapes.{emits}
 use Rattle.program.specs.Runs.{after, passes, taken, exec}
@@ -28,7 +27,7 @@ module _ (task : List Statement) (i : ℕ) (f : Frame) (s : Statement) (here : s
   rest : emitted_on (taken 0 (drop i task) (run_of f)) ≡ emits s + emitted_on (taken 0 (drop (i + 1 + passes s (run_of f)) task) (after s (run_of f)))
   rest = let at = nth_some task i s s here in ap emitted_on (taken_on task i (run_of f) s s at.0 at.1)
 
-  pub room_here : length (items f.emitted) + emits s ≤ 8
+  pub room_here : length f.emitted + emits s ≤ 8
   room_here = let r = rest in omega arith
 
   pub room_on : (g : Frame) (n : ℕ) → run_of g ≡ after s (run_of f) → n ≡ i + 1 + passes s (run_of f) → Room task n g

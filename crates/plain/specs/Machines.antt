@@ -1,6 +1,5 @@
 -- A machine as a value, and what its calls answer.
 use Rattle.std.specs.Prelude.{◌≡◌, ℕ, ◌<◌, cond, List, [], length, Some, None, Ok, Err, Option, Result, ◌==◌, ◌≢◌}
-use Rattle.words.specs.Lists.{items}
 use Rattle.program.specs.declared.statement.Next.{Next}
 use Rattle.program.specs.Sound.{Source, task_of}
 use Rattle.program.specs.Programs.{program_source}
@@ -12,7 +11,7 @@ use Rattle.plain.specs.Plain.{Plain, last_number, left_by, after_visit, page}
 use Rattle.plain.specs.Steps.{Standing, standing, starting, ends}
 
 abbrev pub plain_of : Machine → Plain
-plain_of m = record { number = m.number; next = m.next; emitted = items m.emitted; variables = items m.variables }
+plain_of m = record { number = m.number; next = m.next; emitted = m.emitted; variables = m.variables }
 
 abbrev pub rules_of : Machine → Source
 rules_of m = program_source m.program.now

@@ -1,32 +1,21 @@
 -- From the checks of the tasks to a well-formed program, and back.
 use Rattle.std.proofs.Common.{◌≡◌, ℕ, zero, suc, ◌<◌, ◌≤◌, Bool, true, ◌&&◌, ltb, leb, ◌⊎◌, List, [], ◌∷◌, length, get_or, refl, ap, ◌∙◌, inl, inr, arith}
-use Rattle.std.proofs.lemmas.List.{get_or_past}
+use Rattle.std.proofs.lemmas.List.{get_or_default, get_or_past}
+use Rattle.std.proofs.lemmas.List.Sums.{AllPass-from_list_all, list_all-from_AllPass}
 use Rattle.std.proofs.lemmas.Bool.{and_from, and_parts, le-leb, lt-ltb, leb-true, ltb-true, cases_lt}
-use Rattle.words.proofs.Kept.{length-items}
 use Rattle.program.specs.declared.draft.Draft.{Draft}
 use Rattle.program.specs.declared.program.Program.{Program}
 use Rattle.program.specs.declared.statement.Statement.{Statement}
 use Rattle.std.specs.List.{list_all}
 use Rattle.program.specs.Paths.{paths, ◌∈◌, emitted_on}
-use Rattle.program.specs.Sound.{Source, sound, counts_sound, all_placed, few_emits, task_of, sound_at, total}
+use Rattle.program.specs.Sound.{Source, sound, counts_sound, all_placed, few_emits, task_of, task_sound, scope_of, sound_at, total}
 use Rattle.program.specs.Drafts.{source_of}
 use Rattle.program.specs.Programs.{program_source}
 use Rattle.program.proofs.Drafts.{tasks_count, total_count}
 
-pub pass_from : {A : Type 0} (p : A → Bool) (xs : List A) (d : A) → ((i : ℕ) → i < length xs → p (get_or xs i d) ≡ true) → list_all p xs ≡ true
-pass_from p [] d h = refl
-pass_from p (x ∷ xs) d h = and_from _ _ (h 0 (omega arith)) (pass_from p xs d (λ i l. h (suc i) (omega arith)))
-
-pub pass_at : {A : Type 0} (p : A → Bool) (xs : List A) (d : A) (i : ℕ) → i < length xs → list_all p xs ≡ true → p (get_or xs i d) ≡ true
-pass_at p [] d i h e = absurd (omega arith)
-pass_at p (x ∷ xs) d zero h e = (and_parts (p x) (list_all p xs) e).0
-pass_at p (x ∷ xs) d (suc i) h e = pass_at p xs d i (omega arith) (and_parts (p x) (list_all p xs) e).1
-
 pub counts_checked : (d : Draft) → 0 < d.tasks → counts_sound (source_of d) ≡ true
 counts_checked d some =
     let few = d.few in
-    let variables = length-items d.firsts in
-    let within = d.firsts.within in
     let tasks = tasks_count d in
     let all = total_count d in
     let p : Source = source_of d in
@@ -36,7 +25,9 @@ counts_checked d some =
 pub all_checked : (d : Draft) → 0 < d.tasks → ((u : ℕ) → u < d.tasks → sound_at (source_of d) u ≡ true) → sound (source_of d) ≡ true
 all_checked d some each =
     let tasks = tasks_count d in
-    and_from _ _ (counts_checked d some) (pass_from _ (source_of d).tasks [] (λ u h. each u (omega arith)))
+    let p : Source = source_of d in
+    and_from _ _ (counts_checked d some)
+    (list_all-from_AllPass _ p.tasks (λ u other h. ap (task_sound (scope_of p)) (get_or_default p.tasks u other [] h) ∙ each u (omega arith)))
 
 -- What a well-formed source keeps to
 
@@ -48,12 +39,12 @@ module _ (p : Source) (h : sound p ≡ true) where
       ltb-true 0 (length p.tasks) (and_parts (ltb 0 (length p.tasks)) (leb (length p.tasks) 16) (and_parts _ (leb (total p.tasks) 256) tasks).0).0
 
   pub task_at : (t : ℕ) → t < length p.tasks → sound_at p t ≡ true
-  task_at t l = pass_at _ p.tasks [] t l (and_parts (counts_sound p) _ h).1
+  task_at t l = AllPass-from_list_all _ p.tasks (and_parts (counts_sound p) _ h).1 t [] l
 
-  pub placed_at : (t : ℕ) → t < length p.tasks → all_placed (length p.firsts) p.locals (length p.tasks) (task_of p t) ≡ true
+  pub placed_at : (t : ℕ) → t < length p.tasks → all_placed (scope_of p) (task_of p t) ≡ true
   placed_at t l =
       let task : List Statement = task_of p t in
-      (and_parts (all_placed _ _ _ task) (few_emits task) (and_parts (ltb 0 (length task) && leb (length task) 64) _ (task_at t l)).1).0
+      (and_parts (all_placed _ task) (few_emits task) (and_parts (ltb 0 (length task) && leb (length task) 64) _ (task_at t l)).1).0
 
 -- and so a program
 
@@ -78,7 +69,7 @@ task_few : (p : Program) (t : ℕ) → few_emits (task_of (program_source p) t) 
 task_few p t =
     let task : List Statement = task_of (program_source p) t in
     elim (task_cases p t) [
-      | inl h ↦ (and_parts (all_placed _ _ _ task) (few_emits task) (and_parts (ltb 0 (length task) && leb (length task) 64) _ h).1).1
+      | inl h ↦ (and_parts (all_placed _ task) (few_emits task) (and_parts (ltb 0 (length task) && leb (length task) 64) _ h).1).1
       | inr e ↦ ap few_emits e
     ]
 

@@ -1,6 +1,5 @@
 -- What a draft says, and what each step of its making adds to that.
 use Rattle.std.specs.Prelude.{◌≡◌, ℕ, ◌+◌, ◌<◌, ◌≤◌, ◌⊎◌, List, [], ◌∷◌, ◌++◌, map, length, take, Ok, Err, Result}
-use Rattle.words.specs.Lists.{items}
 use Rattle.program.specs.declared.statement.Index.{Index}
 use Rattle.program.specs.declared.statement.Statement.{Statement}
 use Rattle.program.specs.declared.draft.Draft.{Draft}
@@ -10,7 +9,7 @@ use Rattle.program.specs.Sound.{Source, total}
 
 abbrev pub source_of : Draft → Source
 source_of d = record {
-  firsts = items d.firsts;
+  firsts = d.firsts;
   locals = d.locals;
   tasks = map (part d.table) (take d.tasks d.spans);
 }

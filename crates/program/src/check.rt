@@ -1,78 +1,97 @@
-// Whether a task is well formed.
+// Whether a task is well formed among what its program declares.
 ghost use Rattle.std.specs.Prelude.{◌≡◌, ◌≤◌, ◌&&◌, length, nat_lt};
-ghost use Rattle.program.specs.Shapes.{emits};
-ghost use Rattle.program.specs.Sound.{operand_declared, target_declared, declared, placed, all_placed, few_emits, task_sound};
+ghost use Rattle.program.specs.Sound.{all_placed, declared, few_emits, operand_declared, placed, target_declared, task_sound};
 
 use crate::statement::{Operand, Statement, Target, Task, Test};
 
 // How much a program declares.
-#[derive(Clone, Copy)]
+#[derive(Clone, Copy, PartialEq, Eq, Debug)]
 pub struct Scope {
     pub variables: u8,
     pub locals: u8,
     pub tasks: u8,
 }
 
-fn operand_declared(operand: Operand, scope: Scope) -> bool
-    ensures { result ≡ operand_declared scope.variables scope.locals operand }
-{
-    match operand {
-        Operand::Number(_) => true,
-        Operand::Variable(variable) => variable.number() < scope.variables,
-        Operand::Local(local) => local.number() < scope.locals,
-        Operand::Input(_) => true,
+impl Scope {
+    fn has_task(&self, task: Task) -> bool
+        ensures { result ≡ nat_lt task.number self.now.tasks }
+    {
+        task.number() < self.tasks
     }
-}
 
-fn target_declared(target: Target, scope: Scope) -> bool
-    ensures { result ≡ target_declared scope.variables scope.locals target }
-{
-    match target {
-        Target::Variable(variable) => variable.number() < scope.variables,
-        Target::Local(local) => local.number() < scope.locals,
+    fn has_operand(&self, operand: Operand) -> bool
+        ensures { result ≡ operand_declared self.now operand }
+    {
+        match operand {
+            Operand::Number(_) | Operand::Input(_) => true,
+            Operand::Variable(variable) => variable.number() < self.variables,
+            Operand::Local(local) => local.number() < self.locals,
+        }
     }
-}
 
-fn test_declared(test: Test, scope: Scope) -> bool
-    ensures { result ≡ (operand_declared scope.variables scope.locals test.left && operand_declared scope.variables scope.locals test.right) }
-{
-    operand_declared(test.left, scope) && operand_declared(test.right, scope)
-}
-
-fn task_declared(task: Task, scope: Scope) -> bool
-    ensures { result ≡ nat_lt task.number scope.tasks }
-{
-    task.number() < scope.tasks
-}
-
-// What the statement names is declared.
-fn names_declared(statement: Statement, scope: Scope) -> bool
-    ensures { result ≡ declared scope.variables scope.locals scope.tasks statement }
-{
-    match statement {
-        Statement::Stop => true,
-        Statement::Set {
-            target,
-            left,
-            right,
-            ..
-        } => {
-            operand_declared(left, scope)
-                && operand_declared(right, scope)
-                && target_declared(target, scope)
+    fn has_target(&self, target: Target) -> bool
+        ensures { result ≡ target_declared self.now target }
+    {
+        match target {
+            Target::Variable(variable) => variable.number() < self.variables,
+            Target::Local(local) => local.number() < self.locals,
         }
-        Statement::Emit(operand) => operand_declared(operand, scope),
-        Statement::Skip { test, .. } => test_declared(test, scope),
-        Statement::Next(task) => task_declared(task, scope),
-        Statement::Choose {
-            test,
-            then,
-            otherwise,
-        } => {
-            test_declared(test, scope)
-                && task_declared(then, scope)
-                && task_declared(otherwise, scope)
+    }
+
+    fn has_test(&self, test: Test) -> bool
+        ensures { result ≡ (operand_declared self.now test.left && operand_declared self.now test.right) }
+    {
+        self.has_operand(test.left) && self.has_operand(test.right)
+    }
+
+    // What the statement names is declared.
+    fn has_names_of(&self, statement: Statement) -> bool
+        ensures { result ≡ declared self.now statement }
+    {
+        match statement {
+            Statement::Stop => true,
+            Statement::Set {
+                target,
+                left,
+                right,
+                ..
+            } => self.has_operand(left) && self.has_operand(right) && self.has_target(target),
+            Statement::Emit(operand) => self.has_operand(operand),
+            Statement::Skip { test, .. } => self.has_test(test),
+            Statement::Next(task) => self.has_task(task),
+            Statement::Choose {
+                test,
+                then,
+                otherwise,
+            } => self.has_test(test) && self.has_task(then) && self.has_task(otherwise),
         }
+    }
+
+    // The statement names what is declared and stands where it may, with so many statements behind it.
+    fn admits(&self, statement: Statement, behind: usize) -> bool
+        ensures { result ≡ (declared self.now statement && placed statement behind) }
+    {
+        self.has_names_of(statement) && well_placed(statement, behind)
+    }
+
+    // So does every statement of the task.
+    fn admits_all(&self, task: &[Statement]) -> bool
+        ensures { result ≡ all_placed self.now task.now }
+    {
+        for (i, &statement) in task.iter().enumerate() {
+            if !self.admits(statement, task.len() - 1 - i) {
+                return false;
+            }
+        }
+        true
+    }
+
+    // The task is well formed, if it has at most 64 statements.
+    pub(crate) fn makes_well_formed(&self, task: &[Statement]) -> bool
+        requires { length task.now ≤ 64 }
+        ensures { result ≡ task_sound self.now task.now }
+    {
+        !task.is_empty() && self.admits_all(task) && emits_few(task)
     }
 }
 
@@ -90,52 +109,13 @@ fn well_placed(statement: Statement, behind: usize) -> bool
     }
 }
 
-// The statement names what is declared and stands where it may, with so many statements behind it.
-fn statement_sound(statement: Statement, behind: usize, scope: Scope) -> bool
-    ensures { result ≡ (declared scope.variables scope.locals scope.tasks statement && placed statement behind) }
-{
-    names_declared(statement, scope) && well_placed(statement, behind)
-}
-
-// So does every statement of the task.
-fn statements_sound(task: &[Statement], scope: Scope) -> bool
-    ensures { result ≡ all_placed scope.variables scope.locals scope.tasks task.now }
-{
-    for i in 0..task.len() {
-        let statement = task[i];
-        if !statement_sound(statement, task.len() - 1 - i, scope) {
-            return false;
-        }
-    }
-    true
-}
-
-// How many words the statement adds to the record.
-fn emits_of(statement: Statement) -> u8
-    ensures { result ≡ emits statement }
-{
-    match statement {
-        Statement::Emit(_) => 1,
-        _ => 0,
-    }
-}
-
 // No path adds more than eight words to the record. Both ways are free at a skip, so that one path comes to every
 // statement, and no path adds more than that one.
 fn emits_few(task: &[Statement]) -> bool
     ensures { result ≡ few_emits task.now }
 {
-    let mut emitted: usize = 0;
-    for i in 0..task.len() {
-        emitted += emits_of(task[i]) as usize;
-    }
-    emitted <= 8
-}
-
-// The task is well formed, if it has at most 64 statements.
-pub(crate) fn well_formed(task: &[Statement], scope: Scope) -> bool
-    requires { length task.now ≤ 64 }
-    ensures { result ≡ task_sound scope.variables scope.locals scope.tasks task.now }
-{
-    !task.is_empty() && statements_sound(task, scope) && emits_few(task)
+    let emits = task
+        .iter()
+        .filter(|statement| matches!(statement, Statement::Emit(_)));
+    emits.count() <= 8
 }

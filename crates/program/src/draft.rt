@@ -9,7 +9,7 @@ use words::list::Words;
 pub mod build;
 mod read;
 
-#[derive(Clone, Copy)]
+#[derive(Clone, Copy, Debug)]
 pub struct Draft {
     table: [Statement; 256],
     count: u16,
@@ -17,7 +17,7 @@ pub struct Draft {
     tasks: u8,
     locals: u8,
     firsts: Words<48>,
-    ghost few: { (count ≤ 256) × (tasks ≤ 16) × (locals ≤ 8) },
+    ghost few: { (count ≤ 256) × (tasks ≤ 16) × (locals ≤ 8) × (length firsts ≤ 48) },
     ghost full: { (length table ≡ 256) × (length spans ≡ 16) },
     ghost inside: { Inside spans tasks count },
     ghost last: { Open spans tasks count },

@@ -1,5 +1,5 @@
 // Where a task's statements stand in the table: from the first on, so many of them.
-#[derive(Clone, Copy)]
+#[derive(Clone, Copy, PartialEq, Eq, Debug)]
 pub struct Span {
     pub first: u16,
     pub size: u16,

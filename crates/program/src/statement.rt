@@ -39,7 +39,7 @@ pub type Input = Index<8>;
 pub type Task = Index<16>;
 
 // How many statements a skip passes over.
-#[derive(Clone, Copy)]
+#[derive(Clone, Copy, PartialEq, Eq, Debug)]
 pub struct Reach {
     count: u8,
     ghost near: { (0 < count) × (count ≤ 15) },
@@ -49,7 +49,7 @@ impl Reach {
     pub fn new(count: u8) -> Option<Reach>
         ensures { MatchOption result ((0 < count → count ≤ 15 → ⊥)) (λ o. o.count ≡ count) }
     {
-        if 0 < count && count <= 15 {
+        if (1..=15).contains(&count) {
             Some(Reach { count })
         } else {
             None
@@ -63,7 +63,7 @@ impl Reach {
     }
 }
 
-#[derive(Clone, Copy)]
+#[derive(Clone, Copy, PartialEq, Eq, Debug)]
 pub enum Operand {
     Number(u16),
     Variable(Variable),
@@ -71,7 +71,7 @@ pub enum Operand {
     Input(Input),
 }
 
-#[derive(Clone, Copy)]
+#[derive(Clone, Copy, PartialEq, Eq, Debug)]
 pub enum Operator {
     Plus,
     Minus,
@@ -82,14 +82,14 @@ pub enum Operator {
     Remainder,
 }
 
-#[derive(Clone, Copy)]
+#[derive(Clone, Copy, PartialEq, Eq, Debug)]
 pub enum Comparison {
     Equal,
     Less,
 }
 
 // A comparison of two operands, which holds or not.
-#[derive(Clone, Copy)]
+#[derive(Clone, Copy, PartialEq, Eq, Debug)]
 pub struct Test {
     pub left: Operand,
     pub comparison: Comparison,
@@ -97,14 +97,14 @@ pub struct Test {
 }
 
 // What a set alters.
-#[derive(Clone, Copy)]
+#[derive(Clone, Copy, PartialEq, Eq, Debug)]
 pub enum Target {
     Variable(Variable),
     Local(Local),
 }
 
 // `Next`, `Choose` and `Stop` are endings: each says which task comes at the next visit.
-#[derive(Clone, Copy)]
+#[derive(Clone, Copy, PartialEq, Eq, Debug)]
 pub enum Statement {
     Stop,
     Set {

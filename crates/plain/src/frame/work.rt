@@ -1,6 +1,5 @@
 // A statement at work on a frame.
 ghost use Rattle.std.specs.Prelude.{◌≡◌, ◌+◌, ◌≤◌, [], length};
-ghost use Rattle.words.specs.Lists.{items};
 ghost use Rattle.program.specs.Shapes.{emits};
 ghost use Rattle.program.specs.Runs.{value, result_of, compares, holds, assign, after, passes};
 ghost use Rattle.plain.specs.Frames.{run_of};
@@ -37,7 +36,7 @@ fn compare(comparison: Comparison, left: u16, right: u16) -> bool
 impl Frame {
     // What a visit begins with: the locals 0, the record empty.
     pub(crate) fn new(row: &[u16; 8], variables: Words<48>) -> Frame
-        ensures { run_of result ≡ begun row.now (items variables) }
+        ensures { run_of result ≡ begun row.now variables }
     {
         Frame {
             inputs: *row,
@@ -90,7 +89,7 @@ impl Frame {
 
     // The statement's work, for which the record has room.
     pub(crate) fn work(&mut self, statement: Statement)
-        requires { length (items self.old.emitted) + emits statement ≤ 8 }
+        requires { length self.old.emitted + emits statement ≤ 8 }
         ensures { run_of self.new ≡ after statement (run_of self.old) }
     {
         match statement {

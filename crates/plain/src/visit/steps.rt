@@ -1,7 +1,6 @@
 // The statements of a visit, one after the other.
 ghost use Rattle.std.specs.Prelude.{◌≡◌};
 ghost use Rattle.program.specs.Runs.{value};
-ghost use Rattle.words.specs.Lists.{items};
 ghost use Rattle.program.specs.Sound.{task_of};
 ghost use Rattle.program.specs.Programs.{program_source};
 ghost use Rattle.plain.specs.Frames.{run_of};
@@ -21,7 +20,7 @@ impl<'p> Visit<'p> {
         row: &[u16; 8],
         variables: Words<48>,
     ) -> Visit<'p>
-        ensures { standing result ≡ starting (task_of (program_source program.now) task.number) row.now (items variables) }
+        ensures { standing result ≡ starting (task_of (program_source program.now) task.number) row.now variables }
     {
         let frame = Frame::new(row, variables);
         Visit {

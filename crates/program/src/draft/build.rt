@@ -88,16 +88,12 @@ impl Draft {
     // Puts a statement behind the last task's.
     fn append(&mut self, statement: Statement)
         requires some { 0 < length (source_of self.old).tasks }
-        requires room { (length (last_task (source_of self.old).tasks) < 64) × (total (source_of self.old).tasks < 256) }
+        requires room { length (last_task (source_of self.old).tasks) < 64 }
+        requires space { total (source_of self.old).tasks < 256 }
         ensures { source_of self.new ≡ with_statement statement (source_of self.old) }
     {
-        let last = self.tasks as usize - 1;
-        let span = self.spans[last];
         self.table[self.count as usize] = statement;
-        self.spans[last] = Span {
-            first: span.first,
-            size: span.size + 1,
-        };
+        self.spans[self.tasks as usize - 1].size += 1;
         self.count += 1;
     }
 
@@ -108,10 +104,7 @@ impl Draft {
         if self.tasks() == 0 {
             return Err(Flaw::NoTask);
         }
-        if self.last_size() >= 64 {
-            return Err(Flaw::Statements);
-        }
-        if self.total() >= 256 {
+        if self.last_size() >= 64 || self.total() >= 256 {
             return Err(Flaw::Statements);
         }
         self.append(statement);

@@ -1,11 +1,10 @@
 // What a draft holds, for the program made of it.
 ghost use Rattle.std.specs.Prelude.{◌≡◌, ◌<◌, ◌≤◌, length};
 ghost use Rattle.std.specs.List.{slice_get};
-ghost use Rattle.words.specs.Lists.{items};
 ghost use Rattle.program.specs.Sound.{task_of, sound_at, total};
 ghost use Rattle.program.specs.Drafts.{source_of, last_task};
 
-use crate::check::{Scope, well_formed};
+use crate::check::Scope;
 use crate::draft::Draft;
 use crate::statement::{Statement, Task};
 use words::list::Words;
@@ -36,7 +35,7 @@ impl Draft {
 
     // The variables' first values.
     pub(crate) fn firsts(&self) -> Words<48>
-        ensures { items result ≡ (source_of self.now).firsts }
+        ensures { result ≡ (source_of self.now).firsts }
     {
         self.firsts
     }
@@ -59,12 +58,7 @@ impl Draft {
         if task.number() >= self.tasks {
             return None;
         }
-        let statements = self.statements(task.number());
-        if place < statements.len() {
-            Some(statements[place])
-        } else {
-            None
-        }
+        self.statements(task.number()).get(place).copied()
     }
 
     // Whether a task is well formed.
@@ -77,6 +71,6 @@ impl Draft {
             locals: self.locals,
             tasks: self.tasks,
         };
-        well_formed(self.statements(task), scope)
+        scope.makes_well_formed(self.statements(task))
     }
 }

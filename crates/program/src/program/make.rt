@@ -1,7 +1,6 @@
 // How a program is made of a draft, and what it holds.
 ghost use Rattle.std.specs.Prelude.{◌≡◌, length};
 ghost use Rattle.std.specs.List.{slice_get};
-ghost use Rattle.words.specs.Lists.{items};
 ghost use Rattle.program.specs.Drafts.{source_of};
 ghost use Rattle.program.specs.Sound.{task_of};
 ghost use Rattle.program.specs.Programs.{program_source, Made};
@@ -22,7 +21,7 @@ impl Program {
         }
         for number in 0..draft.tasks() {
             let Some(task) = Task::new(number) else {
-                return Err(Flaw::NoTask);
+                unreachable!()
             };
             if !draft.task_sound(number) {
                 return Err(Flaw::Malformed(task));
@@ -33,7 +32,7 @@ impl Program {
 
     // The variables' first values.
     pub fn firsts(&self) -> Words<48>
-        ensures { items result ≡ (program_source self.now).firsts }
+        ensures { result ≡ (program_source self.now).firsts }
     {
         self.draft.firsts()
     }
