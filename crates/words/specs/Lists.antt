@@ -3,26 +3,27 @@ use Rattle.std.specs.Prelude.{◌≡◌, ℕ, ◌-◌, ◌≤◌, cond, List, []
 use Rattle.std.proofs.Common.{ap, sym, ◌∙◌, arith, length-take-le}
 use Rattle.std.proofs.lemmas.List.{take-append-drop}
 
--- N words, of which so many are the list; those past them are 0
-pub record Holds (N count : ℕ) (words : List ℕ) : Type 0 where
-  pub full : length words ≡ N
+-- an array of N items, of which the first count are the list; those past them are the filler
+pub record Holds {A : Type 0} (filler : A) (N count : ℕ) (items : List A) : Type 0 where
+  pub full : length items ≡ N
   pub within : count ≤ N
-  pub zeros_past : drop count words ≡ replicate (N - count) 0
+  pub rest : drop count items ≡ replicate (N - count) filler
 
--- a list and zeros, in all N words
-abbrev pub padded : ℕ → List ℕ → List ℕ
-padded N xs = xs ++ replicate (N - length xs) 0
+-- the list, and fillers up to N
+abbrev pub padded : {A : Type 0} → A → ℕ → List A → List A
+padded filler N xs = xs ++ replicate (N - length xs) filler
 
--- the list tells how many words count, and the array
-pub length_held : (N count : ℕ) (words : List ℕ) → Holds N count words → length (take count words) ≡ count
-length_held N count words h = length-take-le count words (omega (arith, h.full, h.within))
+-- the list tells how many items count, and the array
+module _ {A : Type 0} (filler : A) (N count : ℕ) (items : List A) (h : Holds filler N count items) where
+  pub length_held : length (take count items) ≡ count
+  length_held = length-take-le count items (omega (arith, h.full, h.within))
 
-pub padded_held : (N count : ℕ) (words : List ℕ) → Holds N count words → padded N (take count words) ≡ words
-padded_held N count words h =
-    ap (λ n. take count words ++ replicate (N - n) 0) (length_held N count words h)
-    ∙ ap (λ past. take count words ++ past) (sym h.zeros_past)
-    ∙ take-append-drop count words
+  pub padded_held : padded filler N (take count items) ≡ items
+  padded_held =
+      ap (λ n. take count items ++ replicate (N - n) filler) length_held
+      ∙ ap (λ rest. take count items ++ rest) (sym h.rest)
+      ∙ take-append-drop count items
 
--- a word more at the end of a list that holds at most N
-abbrev pub pushed : ℕ → List ℕ → ℕ → List ℕ
+-- an item more at the end of a list that holds at most N
+abbrev pub pushed : {A : Type 0} → ℕ → List A → A → List A
 pushed N xs x = cond (nat_lt (length xs) N) (xs ++ x ∷ []) xs

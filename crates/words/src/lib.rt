@@ -1,4 +1,5 @@
-// Short lists of 16-bit words with a fixed capacity.
+// Short lists with a fixed capacity, of words and of other items.
 #![tactic(auto)]
 
+pub mod filler;
 pub mod list;

@@ -1,27 +1,38 @@
-// Short lists of words: an array whose first words count, seen as the list of these.
+// Short lists: an array whose first items count, seen as the list of these.
+use crate::filler::Filler;
+use std::alloc::AllocError;
 use std::marker::Model;
 
 pub mod methods;
 
-// At most N words.
-#[derive(Clone, Copy, PartialEq, Eq, Debug)]
-pub struct Words<const N: usize> {
-    words: [u16; N],
+// At most N items.
+#[derive(Copy, PartialEq, Eq, Debug)]
+pub struct Short<T: Filler, const N: usize> {
+    items: [T; N],
     count: usize,
 }
 
-// Clauses see the words that count. Those past them are 0, so that the list tells the array.
-impl<const N: usize> Model for Words<N> {
-    ghost use Rattle.std.specs.Prelude.{ℕ, List, length, take};
-    ghost use Rattle.words.specs.Lists.{Holds, padded, padded_held, length_held};
+// At most N words.
+pub type Words<const N: usize> = Short<u16, N>;
 
-    ghost Value = { List ℕ };
+// Clauses see the items that count. Past them stands the filler, so that the list tells the array.
+impl<T: Filler, const N: usize> Model for Short<T, N> {
+    ghost use Rattle.std.specs.Prelude.{List, length, take};
+    ghost use Rattle.words.specs.Lists.{Holds, length_held, padded, padded_held};
 
-    ghost view = { λ w. take w.count w.words };
+    ghost Value = { List T };
 
-    ghost invariant = { λ w. Holds N w.count w.words };
+    ghost view = { λ s. take s.count s.items };
 
-    ghost inverse = { λ xs. record { words = padded N xs; count = length xs } };
+    ghost invariant = { λ s. Holds T.filler N s.count s.items };
 
-    ghost inverse_ok = { λ w h i. record { words = padded_held N w.count w.words h i; count = length_held N w.count w.words h i } };
+    ghost inverse = { λ xs. record { items = padded T.filler N xs; count = length xs } };
+
+    ghost inverse_ok = { λ s h i. record { items = padded_held T.filler N s.count s.items h i; count = length_held T.filler N s.count s.items h i } };
+}
+
+impl<T: Filler, const N: usize> Clone for Short<T, N> {
+    fn clone(&self) -> Result<Self, AllocError> {
+        Ok(*self)
+    }
 }

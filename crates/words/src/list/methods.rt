@@ -1,33 +1,34 @@
-// What a list of words answers and how it grows.
+// What a short list answers and how it grows.
 ghost use Rattle.std.specs.Prelude.{◌≡◌, ◌≤◌, [], length, is_ok, nat_lt, slice_index, slice_set};
 ghost use Rattle.words.specs.Lists.{pushed};
 
-use crate::list::Words;
+use crate::filler::Filler;
+use crate::list::{Short, Words};
 
-// The list holds as many words as it can.
+// The list holds as many items as it can.
 #[derive(Clone, Copy, PartialEq, Eq, Debug)]
 pub struct Full;
 
-impl<const N: usize> Words<N> {
-    // No words.
-    pub fn new() -> Words<N>
+impl<T: Filler, const N: usize> Short<T, N> {
+    // No items.
+    pub fn new() -> Self
         ensures { result ≡ [] }
     {
-        Words {
-            words: [0; N],
+        Short {
+            items: [T::filler(); N],
             count: 0,
         }
     }
 
-    // The words.
-    pub fn as_slice(&self) -> &[u16]
+    // The items.
+    pub fn as_slice(&self) -> &[T]
         ensures value { result.now ≡ self.now }
         ensures bound { length result.now ≤ N }
     {
-        &(&self.words[..])[0..self.count]
+        &self.items[..self.count]
     }
 
-    // How many words there are.
+    // How many items there are.
     pub fn len(&self) -> usize
         ensures value { result ≡ length self.now }
         ensures bound { result ≤ N }
@@ -35,33 +36,35 @@ impl<const N: usize> Words<N> {
         self.as_slice().len()
     }
 
-    // The word at a place, 0 past the last.
-    pub fn get(&self, place: usize) -> u16
-        ensures { result ≡ slice_index self.now place }
-    {
-        self.as_slice().get(place).copied().unwrap_or(0)
-    }
-
-    // Puts a word in place of the one there; past the last it alters nothing.
-    pub fn set(&mut self, place: usize, word: u16)
-        ensures { self.new ≡ slice_set self.old place word }
+    // Puts an item in place of the one there; past the last it alters nothing.
+    pub fn set(&mut self, place: usize, item: T)
+        ensures { self.new ≡ slice_set self.old place item }
     {
         if place < self.len() {
-            self.words[place] = word;
+            self.items[place] = item;
         }
     }
 
-    // One word more at the end, if there is room.
-    pub fn push(&mut self, word: u16) -> Result<(), Full>
+    // One item more at the end, if there is room.
+    pub fn push(&mut self, item: T) -> Result<(), Full>
         ensures answer { is_ok result ≡ nat_lt (length self.old) N }
-        ensures after { self.new ≡ pushed N self.old word }
+        ensures after { self.new ≡ pushed N self.old item }
     {
         let count = self.len();
         if count >= N {
             return Err(Full);
         }
-        self.words[count] = word;
+        self.items[count] = item;
         self.count = count + 1;
         Ok(())
+    }
+}
+
+impl<const N: usize> Words<N> {
+    // The word at a place, 0 past the last.
+    pub fn get(&self, place: usize) -> u16
+        ensures { result ≡ slice_index self.now place }
+    {
+        self.as_slice().get(place).copied().unwrap_or(0)
     }
 }
