@@ -1,17 +1,15 @@
 -- The checks of a task, statement by statement.
-use Rattle.std.proofs.Common.{◌≡◌, ltb, cond, reverse, ℕ, zero, suc, ◌+◌, ◌-◌, ◌<◌, ◌≤◌, Bool, true, ◌&&◌, leb, List, [], ◌∷◌, ◌++◌, map, length, get_or, drop, sym, refl, ap, ◌∙◌, ap₂, add_assoc, zero-add, arith, length-drop}
-use mathlib.Core.Bool.{and-true, and_assoc}
+use Rattle.std.proofs.Common.{◌≡◌, ltb, cond, ℕ, zero, suc, ◌+◌, ◌≤◌, Bool, true, ◌&&◌, leb, List, [], ◌∷◌, ◌++◌, drop, sym, refl, ap, ◌∙◌, ap₂, add_assoc, zero-add, arith}
+use mathlib.Core.Bool.{and-true}
 use mathlib.Core.Path.{fun_ext}
-use Rattle.std.proofs.lemmas.List.{at_drop_more}
 use Rattle.program.specs.declared.statement.Statement.{Statement}
 use Rattle.std.proofs.lemmas.Bool.Decides.{nat_tests}
-use Rattle.std.specs.List.{count_by, enumerate_from, flat_map, list_all}
+use Rattle.std.specs.List.{count_by, flat_map, list_all}
 use Rattle.std.proofs.lemmas.List.Folds.{list_all-append, list_all-map}
 use Rattle.std.proofs.lemmas.List.Recursion.{is_count_by}
-use Rattle.program.specs.declared.check.Scope.{Scope}
 use Rattle.program.specs.Shapes.{emits, ways}
 use Rattle.program.specs.Paths.{paths, emitted_on}
-use Rattle.program.specs.Sound.{declared, placed, all_placed, few_emits}
+use Rattle.program.specs.Sound.{few_emits}
 
 -- a test of every element
 

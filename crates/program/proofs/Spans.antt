@@ -1,82 +1,93 @@
--- Spans of the table: one more at the end, and one more statement in the last.
-use Rattle.std.proofs.Common.{◌≡◌, ℕ, ◌+◌, ◌-◌, ◌<◌, ◌≤◌, List, [], ◌∷◌, ◌++◌, map, length, get_or, take, drop, set, sym, refl, ap, ◌∙◌, subst, ap₂, inl, inr, arith, length-drop, length-take, get_or-set_other, get_or-take, get_or-set_same}
-use lib.Seq.{take-set-le, drop-set-add}
-use Rattle.std.specs.List.{AllByRecursion as All}
-use Rattle.std.proofs.ByRecursion.{All-from_get_or}
-use Rattle.std.proofs.lemmas.List.{take_more_set}
-use Rattle.std.proofs.lemmas.Bool.{cases_eq}
+-- Spans of the table that lie one behind the other, and what they hold when the table grows.
+use Rattle.std.proofs.Common.{◌≡◌, ℕ, zero, suc, ◌+◌, ◌<◌, ◌≤◌, List, [], ◌∷◌, ◌++◌, map, length, get_or, take, drop, set, sym, ap, ◌∙◌, ap₂, arith, length-drop, length-take}
+use Rattle.std.proofs.Math.Seq.{take-append-add}
+use Rattle.std.proofs.lemmas.List.{drop-append-le, take-append-le, take_all}
 use Rattle.program.specs.declared.span.Span.{Span}
 use Rattle.program.specs.declared.statement.Statement.{Statement}
-use Rattle.program.specs.Spans.{part, Inside, Open, sizes}
+use Rattle.program.specs.Spans.{part, LieBehind}
 use Rattle.program.specs.Sound.{total}
+use Rattle.program.specs.Drafts.{last_task, onto_last}
 
-pub sizes_push : (xs : List Span) (x : Span) → sizes (xs ++ x ∷ []) ≡ sizes xs + x.size
-sizes_push [] x = omega arith
-sizes_push (y ∷ xs) x = let on = sizes_push xs x in omega arith
+-- one statement more
+abbrev pub longer : Span → Span
+longer x = record { first = x.first; size = x.size + 1 }
 
--- the statements of a span
+-- what a span holds
+module _ (table : List Statement) (x : Span) where
+  length_part : x.first + x.size ≤ length table → length (part table x) ≡ x.size
+  length_part h = simp (length-take, length-drop) (omega arith)
 
-pub length_part : (table : List Statement) (x : Span) → x.first + x.size ≤ length table → length (part table x) ≡ x.size
-length_part table x h = simp (length-take, length-drop) (omega arith)
+  -- a statement behind the table leaves it as it is
+  part_kept : (s : Statement) → x.first + x.size ≤ length table → part (table ++ s ∷ []) x ≡ part table x
+  part_kept s h =
+      ap (take x.size) (drop-append-le x.first table (s ∷ []) (omega arith))
+      ∙ take-append-le x.size (drop x.first table) (s ∷ []) (simp length-drop (omega arith))
 
--- what is put behind a span leaves it
-part_beyond : (table : List Statement) (x : Span) (i : ℕ) (s : Statement) → x.first + x.size ≤ i → part (set table i s) x ≡ part table x
-part_beyond table x i s h =
-    let j : ℕ = i - x.first in
-    let e : i ≡ x.first + j = omega arith in
-    ap (λ n. take x.size (drop x.first (set table n s))) e
-    ∙ ap (take x.size) (drop-set-add x.first table j s)
-    ∙ take-set-le x.size (drop x.first table) j s (omega arith)
+  -- or extends it, where the span ends with the table
+  part_longer : (s : Statement) → x.first + x.size ≡ length table → part (table ++ s ∷ []) (longer x) ≡ part table x ++ s ∷ []
+  part_longer s h =
+      let rest : List Statement = drop x.first table in
+      let long : length rest ≡ x.size = simp length-drop (omega arith) in
+      ap (take (x.size + 1)) (drop-append-le x.first table (s ∷ []) (omega arith))
+      ∙ ap (λ n. take (n + 1) (rest ++ s ∷ [])) (sym long)
+      ∙ take-append-add rest (s ∷ []) 1
+      ∙ ap (λ xs. xs ++ s ∷ []) (sym (take_all x.size rest (omega arith)))
 
--- a statement put right behind a span extends it
-pub part_grown : (table : List Statement) (x : Span) (i : ℕ) (s : Statement) → x.first + x.size ≡ i → i < length table
-    → part (set table i s) (record { first = x.first; size = x.size + 1 }) ≡ part table x ++ s ∷ []
-part_grown table x i s e h =
-    ap (λ n. take (x.size + 1) (drop x.first (set table n s))) (sym e)
-    ∙ ap (take (x.size + 1)) (drop-set-add x.first table x.size s)
-    ∙ take_more_set (drop x.first table) x.size s (simp length-drop (omega arith))
+from_start : (a n : ℕ) (xs : List Span) → LieBehind a xs n → a ≤ n
+from_start a n [] h = omega arith
+from_start a n (x ∷ xs) (e, small, more) = let on = from_start (a + x.size) n xs more in omega arith
 
--- spans that end by a place
+-- a span more, as yet without statements
+pub opened : (a n : ℕ) (xs : List Span) → LieBehind a xs n → LieBehind a (xs ++ record { first = n; size = 0 } ∷ []) n
+opened a n [] h = (sym h, omega arith, omega arith)
+opened a n (x ∷ xs) (e, small, more) = (e, small, opened (a + x.size) n xs more)
 
-abbrev pub EndsBy : ℕ → Span → Type 0
-EndsBy n x = x.first + x.size ≤ n
+-- each ends by n
+pub span_inside : (a n : ℕ) (xs : List Span) → LieBehind a xs n → (t : ℕ) (z : Span) → t < length xs → ((get_or xs t z).first + (get_or xs t z).size ≤ n) × ((get_or xs t z).size ≤ 64)
+span_inside a n [] h t z l = absurd (omega arith)
+span_inside a n (x ∷ xs) (e, small, more) zero z l = let end = from_start (a + x.size) n xs more in (omega arith, small)
+span_inside a n (x ∷ xs) (e, small, more) (suc t) z l = span_inside (a + x.size) n xs more t z (omega arith)
 
-pub total_parts : (table : List Statement) (xs : List Span) → All (EndsBy (length table)) xs → total (map (part table) xs) ≡ sizes xs
-total_parts table [] h = refl
-total_parts table (x ∷ xs) h = ap₂ ◌+◌ (length_part table x h.0) (total_parts table xs h.1)
+module _ (table : List Statement) where
+  pub total_parts : (a n : ℕ) (xs : List Span) → LieBehind a xs n → n ≤ length table → a + total (map (part table) xs) ≡ n
+  total_parts a n [] h fits = omega arith
+  total_parts a n (x ∷ xs) (e, small, more) fits =
+      let on = total_parts (a + x.size) n xs more fits in
+      let end = from_start (a + x.size) n xs more in
+      let here = length_part table x (omega arith) in
+      omega arith
 
-pub parts_beyond : (table : List Statement) (i : ℕ) (s : Statement) (xs : List Span) → All (EndsBy i) xs → map (part (set table i s)) xs ≡ map (part table) xs
-parts_beyond table i s [] h = refl
-parts_beyond table i s (x ∷ xs) h = ap₂ ◌∷◌ (part_beyond table x i s h.0) (parts_beyond table i s xs h.1)
+-- THE LAST SPAN, at place k
+module _ (z : Span) where
+  pub last_end : (a n : ℕ) (xs : List Span) (k : ℕ) → LieBehind a xs n → length xs ≡ suc k → (get_or xs k z).first + (get_or xs k z).size ≡ n
+  last_end a n [] k h l = absurd (omega arith)
+  last_end a n (x ∷ []) zero (e, small, more) l = omega arith
+  last_end a n (x ∷ []) (suc k) h l = absurd (omega arith)
+  last_end a n (x ∷ (y ∷ xs)) zero h l = absurd (omega arith)
+  last_end a n (x ∷ (y ∷ xs)) (suc k) (e, small, more) l = last_end (a + x.size) n (y ∷ xs) k more (omega arith)
 
-module _ (spans : List Span) (tasks count : ℕ) (inside : Inside spans tasks count) where
-  -- the first k of them
-  pub all_end : (n k : ℕ) → k ≤ tasks → k ≤ length spans → count ≤ n → All (EndsBy n) (take k spans)
-  all_end n k h l m =
-      let none : Span = record { first = 0; size = 0 } in
-      All-from_get_or (EndsBy n) (take k spans) none (λ i j.
-      let below : i < k = omega (arith, j, length-take k spans) in
-      let end = inside i none (omega arith) in
-      rw (get_or-take k spans i none below) (omega arith))
+  pub last_longer : (a n : ℕ) (xs : List Span) (k : ℕ) → LieBehind a xs n → length xs ≡ suc k → (get_or xs k z).size < 64 → LieBehind a (set xs k (longer (get_or xs k z))) (n + 1)
+  last_longer a n [] k h l room = absurd (omega arith)
+  last_longer a n (x ∷ []) zero (e, small, more) l room = (e, omega arith, omega arith)
+  last_longer a n (x ∷ []) (suc k) h l room = absurd (omega arith)
+  last_longer a n (x ∷ (y ∷ xs)) zero h l room = absurd (omega arith)
+  last_longer a n (x ∷ (y ∷ xs)) (suc k) (e, small, more) l room = (e, small, last_longer (a + x.size) n (y ∷ xs) k more (omega arith) room)
 
--- The span at k becomes the last: a new one, or the last one grown. It ends at n, and those before it by m.
-module _ (spans : List Span) (k : ℕ) (x : Span) (h : k < length spans) (tasks : ℕ) (e : tasks ≡ k + 1) where
-  pub take_last : take tasks (set spans k x) ≡ take k spans ++ x ∷ []
-  take_last = ap (λ n. take n (set spans k x)) e ∙ take_more_set spans k x h
+  module _ (table : List Statement) where
+    pub length_last : (a n : ℕ) (xs : List Span) (k : ℕ) → LieBehind a xs n → n ≤ length table → length xs ≡ suc k → length (last_task (map (part table) xs)) ≡ (get_or xs k z).size
+    length_last a n [] k h fits l = absurd (omega arith)
+    length_last a n (x ∷ []) zero (e, small, more) fits l = length_part table x (omega arith)
+    length_last a n (x ∷ []) (suc k) h fits l = absurd (omega arith)
+    length_last a n (x ∷ (y ∷ xs)) zero h fits l = absurd (omega arith)
+    length_last a n (x ∷ (y ∷ xs)) (suc k) (e, small, more) fits l = length_last (a + x.size) n (y ∷ xs) k more fits (omega arith)
 
-  pub sizes_last : sizes (take tasks (set spans k x)) ≡ sizes (take k spans) + x.size
-  sizes_last = ap sizes take_last ∙ sizes_push (take k spans) x
-
-  pub inside_last : (m n : ℕ) → Inside spans k m → m ≤ n → x.first + x.size ≡ n → x.size ≤ 64 → Inside (set spans k x) tasks n
-  inside_last m n before le end small t d l =
-      elim (cases_eq t k) [
-        | inl q ↦ subst (λ (y : Span). (y.first + y.size ≤ n) × (y.size ≤ 64)) (sym (ap (λ u. get_or (set spans k x) u d) q ∙ get_or-set_same spans k x d h)) (omega arith, small)
-        | inr q ↦
-            let old = before t d (omega arith) in
-            subst (λ (y : Span). (y.first + y.size ≤ n) × (y.size ≤ 64)) (sym (get_or-set_other spans k t x d q)) (omega arith, old.1)
-      ]
-
-  pub open_last : (n : ℕ) → x.first + x.size ≡ n → Open (set spans k x) tasks n
-  open_last n end d l =
-      let at : tasks - 1 ≡ k = omega arith in
-      subst (λ (y : Span). y.first + y.size ≡ n) (sym (ap (λ u. get_or (set spans k x) u d) at ∙ get_or-set_same spans k x d h)) end
+    -- a statement behind the table is the last one's
+    pub grown : (s : Statement) (a n : ℕ) (xs : List Span) (k : ℕ) → LieBehind a xs n → n ≡ length table → length xs ≡ suc k
+        → map (part (table ++ s ∷ [])) (set xs k (longer (get_or xs k z))) ≡ onto_last s (map (part table) xs)
+    grown s a n [] k h fits l = absurd (omega arith)
+    grown s a n (x ∷ []) zero (e, small, more) fits l = ap (λ t. t ∷ []) (part_longer table x s (omega arith))
+    grown s a n (x ∷ []) (suc k) h fits l = absurd (omega arith)
+    grown s a n (x ∷ (y ∷ xs)) zero h fits l = absurd (omega arith)
+    grown s a n (x ∷ (y ∷ xs)) (suc k) (e, small, more) fits l =
+        let end = from_start (a + x.size) n (y ∷ xs) more in
+        ap₂ ◌∷◌ (part_kept table x s (omega arith)) (grown s (a + x.size) n (y ∷ xs) k more fits (omega arith))

@@ -1,5 +1,5 @@
 -- What a draft says, and what each step of its making adds to that.
-use Rattle.std.specs.Prelude.{◌≡◌, ℕ, ◌+◌, ◌<◌, ◌≤◌, ◌⊎◌, List, [], ◌∷◌, ◌++◌, map, length, take, Ok, Err, Result}
+use Rattle.std.specs.Prelude.{◌≡◌, ℕ, ◌+◌, ◌<◌, ◌≤◌, ◌⊎◌, List, [], ◌∷◌, ◌++◌, map, length, Ok, Err, Result}
 use Rattle.program.specs.declared.statement.Index.{Index}
 use Rattle.program.specs.declared.statement.Statement.{Statement}
 use Rattle.program.specs.declared.draft.Draft.{Draft}
@@ -11,7 +11,7 @@ abbrev pub source_of : Draft → Source
 source_of d = record {
   firsts = d.firsts;
   locals = d.locals;
-  tasks = map (part d.table) (take d.tasks d.spans);
+  tasks = map (part d.statements) d.spans;
 }
 
 -- nothing yet

@@ -1,5 +1,6 @@
 -- The statements of the tasks in one table.
-use Rattle.std.specs.Prelude.{◌≡◌, ℕ, ◌+◌, ◌-◌, ◌<◌, ◌≤◌, List, [], ◌∷◌, take, drop, slice_index_or}
+use Rattle.std.specs.Prelude.{◌≡◌, ℕ, ◌+◌, ◌≤◌, List, [], ◌∷◌, take, drop}
+use Rattle.std.proofs.Props.{props}
 use Rattle.program.specs.declared.span.Span.{Span}
 use Rattle.program.specs.declared.statement.Statement.{Statement}
 
@@ -7,15 +8,12 @@ use Rattle.program.specs.declared.statement.Statement.{Statement}
 abbrev pub part : List Statement → Span → List Statement
 part table span = take span.size (drop span.first table)
 
--- each task has at most 64 statements, among those filled in so far
-abbrev pub Inside : List Span → ℕ → ℕ → Type 0
-Inside spans tasks count = (t : ℕ) (d : Span) → t < tasks → ((slice_index_or spans t d).first + (slice_index_or spans t d).size ≤ count) × ((slice_index_or spans t d).size ≤ 64)
+-- The spans lie one behind the other from start to end, each of at most 64 statements.
+abbrev pub LieBehind : ℕ → List Span → ℕ → Type 0
+LieBehind start [] end = start ≡ end
+LieBehind start (span ∷ more) end = (span.first ≡ start) × (span.size ≤ 64) × LieBehind (start + span.size) more end
 
--- the last task ends where the filled part of the table does, so that it can grow
-abbrev pub Open : List Span → ℕ → ℕ → Type 0
-Open spans tasks count = (d : Span) → 0 < tasks → (slice_index_or spans (tasks - 1) d).first + (slice_index_or spans (tasks - 1) d).size ≡ count
-
--- how many statements the spans have in all
-abbrev pub sizes : List Span → ℕ
-sizes [] = 0
-sizes (span ∷ more) = span.size + sizes more
+-- a proposition: it can hold in one way at most
+pub LieBehind-prop : (start : ℕ) (spans : List Span) (end : ℕ) → IsProp (LieBehind start spans end)
+LieBehind-prop start [] end = Prim.hlevel props
+LieBehind-prop start (span ∷ more) end = let rest = LieBehind-prop (start + span.size) more end in Prim.hlevel (props, rest)

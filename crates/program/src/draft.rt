@@ -1,25 +1,20 @@
 // A program in the making: one table of statements, and for each task where its statements stand in it.
-ghost use Rattle.std.specs.Prelude.{◌≡◌, ◌≤◌, length, take};
-ghost use Rattle.program.specs.Spans.{Inside, Open, sizes};
+ghost use Rattle.std.specs.Prelude.{◌≡◌, ◌≤◌, length};
+ghost use Rattle.program.specs.Spans.{LieBehind, LieBehind-prop};
 
 use crate::span::Span;
 use crate::statement::Statement;
-use words::list::Words;
+use words::list::{Short, Words};
 
 pub mod build;
 mod read;
 
 #[derive(Clone, Copy, Debug)]
 pub struct Draft {
-    table: [Statement; 256],
-    count: u16,
-    spans: [Span; 16],
-    tasks: u8,
+    statements: Short<Statement, 256>,
+    spans: Short<Span, 16>,
     locals: u8,
     firsts: Words<48>,
-    ghost few: { (count ≤ 256) × (tasks ≤ 16) × (locals ≤ 8) × (length firsts ≤ 48) },
-    ghost full: { (length table ≡ 256) × (length spans ≡ 16) },
-    ghost inside: { Inside spans tasks count },
-    ghost last: { Open spans tasks count },
-    ghost whole: { sizes (take tasks spans) ≡ count },
+    ghost few: { (length statements ≤ 256) × (length spans ≤ 16) × (locals ≤ 8) × (length firsts ≤ 48) },
+    ghost laid: { LieBehind 0 spans (length statements) } by { LieBehind-prop 0 spans (length statements) },
 }

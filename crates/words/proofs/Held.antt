@@ -1,9 +1,9 @@
 -- An array that holds a list, when an item is put or added.
-use Rattle.std.proofs.Common.{◌≡◌, take, inl, inr, length-take, ℕ, ◌+◌, ◌-◌, ◌<◌, List, drop, set, replicate, ap, sym, ◌∙◌, arith, length-set}
+use Rattle.std.proofs.Common.{length, cond, ◌++◌, ◌∷◌, [], ◌≡◌, take, inl, inr, length-take, ℕ, ◌+◌, ◌-◌, ◌<◌, List, drop, set, replicate, ap, sym, ◌∙◌, arith, length-set}
 use Rattle.std.proofs.Math.Seq.{take-set-lt}
-use Rattle.std.proofs.lemmas.Bool.{cases_lt}
+use Rattle.std.proofs.lemmas.Bool.{cases_lt, lt-ltb}
 use Rattle.std.proofs.lemmas.List.{take-set-le, set_past, drop-drop, drop-set-lt, drop-replicate}
-use Rattle.words.specs.Lists.{Holds}
+use Rattle.words.specs.Lists.{Holds, pushed}
 
 pub holds_more : {A : Type 0} (filler : A) (N n : ℕ) (items : List A) (x : A) → Holds filler N n items → n < N → Holds filler N (n + 1) (set items n x)
 holds_more filler N n items x h room = record {
@@ -24,3 +24,6 @@ take_set n xs i x =
       | inl h ↦ take-set-lt n xs i x h
       | inr h ↦ take-set-le n xs i x h ∙ sym (set_past (take n xs) i x (omega (arith, length-take n xs)))
     ]
+
+pub pushed_room : {A : Type 0} (N : ℕ) (xs : List A) (x : A) → length xs < N → pushed N xs x ≡ xs ++ x ∷ []
+pushed_room N xs x h = ap (λ b. cond b (xs ++ x ∷ []) xs) (lt-ltb (length xs) N h)

@@ -6,7 +6,7 @@ ghost use Rattle.program.specs.Drafts.{source_of, blank, with_task, with_stateme
 use crate::draft::Draft;
 use crate::span::Span;
 use crate::statement::{Local, Statement, Task, Variable};
-use words::list::Words;
+use words::list::{Short, Words};
 
 // Why a draft takes nothing more, or is no program.
 #[derive(Clone, Copy, PartialEq, Eq, Debug)]
@@ -31,10 +31,8 @@ impl Draft {
         ensures { source_of result ≡ blank }
     {
         Draft {
-            table: [Statement::Stop; 256],
-            count: 0,
-            spans: [Span { first: 0, size: 0 }; 16],
-            tasks: 0,
+            statements: Short::new(),
+            spans: Short::new(),
             locals: 0,
             firsts: Words::new(),
         }
@@ -67,11 +65,8 @@ impl Draft {
         requires { length (source_of self.old).tasks < 16 }
         ensures { source_of self.new ≡ with_task (source_of self.old) }
     {
-        self.spans[self.tasks as usize] = Span {
-            first: self.count,
-            size: 0,
-        };
-        self.tasks += 1;
+        let first = self.total();
+        let _ = self.spans.push(Span { first, size: 0 });
     }
 
     // One task more, which the statements that follow are for.
@@ -92,9 +87,16 @@ impl Draft {
         requires space { total (source_of self.old).tasks < 256 }
         ensures { source_of self.new ≡ with_statement statement (source_of self.old) }
     {
-        self.table[self.count as usize] = statement;
-        self.spans[self.tasks as usize - 1].size += 1;
-        self.count += 1;
+        let last = self.spans.len() - 1;
+        let span = self.spans.as_slice()[last];
+        self.spans.set(
+            last,
+            Span {
+                first: span.first,
+                size: span.size + 1,
+            },
+        );
+        let _ = self.statements.push(statement);
     }
 
     // One statement more in the last task.

@@ -15,7 +15,7 @@ impl Draft {
         ensures value { result ≡ length (source_of self.now).tasks }
         ensures bound { result ≤ 16 }
     {
-        self.tasks
+        self.spans.len() as u8
     }
 
     // How many statements the last task has.
@@ -23,14 +23,14 @@ impl Draft {
         requires { 0 < length (source_of self.now).tasks }
         ensures { result ≡ length (last_task (source_of self.now).tasks) }
     {
-        self.spans[self.tasks as usize - 1].size
+        self.spans.as_slice()[self.spans.len() - 1].size
     }
 
     // How many statements there are in all.
     pub(crate) fn total(&self) -> u16
         ensures { result ≡ total (source_of self.now).tasks }
     {
-        self.count
+        self.statements.len() as u16
     }
 
     // The variables' first values.
@@ -42,20 +42,21 @@ impl Draft {
 
     // The statements of a task.
     fn statements(&self, task: u8) -> &[Statement]
-        requires { task < self.now.tasks }
+        requires { task < length (source_of self.now).tasks }
         ensures value { result.now ≡ task_of (source_of self.now) task }
         ensures bound { length result.now ≤ 64 }
     {
-        let span = self.spans[task as usize];
+        let span = self.spans.as_slice()[task as usize];
         let first = span.first as usize;
-        &self.table[first..first + span.size as usize]
+        let table = self.statements.as_slice();
+        &table[first..first + span.size as usize]
     }
 
     // The statement at a place of a task, if there is one.
     pub(crate) fn statement_at(&self, task: Task, place: usize) -> Option<Statement>
         ensures { result ≡ slice_get (task_of (source_of self.now) task.number) place }
     {
-        if task.number() >= self.tasks {
+        if task.number() >= self.tasks() {
             return None;
         }
         self.statements(task.number()).get(place).copied()
@@ -63,13 +64,13 @@ impl Draft {
 
     // Whether a task is well formed.
     pub(crate) fn task_sound(&self, task: u8) -> bool
-        requires { task < self.now.tasks }
+        requires { task < length (source_of self.now).tasks }
         ensures { result ≡ sound_at (source_of self.now) task }
     {
         let scope = Scope {
             variables: self.firsts.len() as u8,
             locals: self.locals,
-            tasks: self.tasks,
+            tasks: self.tasks(),
         };
         scope.makes_well_formed(self.statements(task))
     }

@@ -1,59 +1,61 @@
 -- `Draft::append`: what the search leaves to show.
-use Rattle.std.proofs.Common.{◌≡◌, ℕ, ◌+◌, ◌-◌, ◌<◌, length, get_or, ap, ◌∙◌, arith, length-set}
+use Rattle.std.proofs.Common.{[], ◌∷◌, ◌++◌, ◌≡◌, ◌+◌, ◌-◌, ℕ, suc, length, map, get_or, set, sym, ap, ap₂, subst, List, ◌∙◌, arith, length-append, length-set}
+use Rattle.words.proofs.Held.{pushed_room}
 use Rattle.program.specs.declared.span.Span.{Span}
+use Rattle.program.specs.Spans.{LieBehind, part}
 use Rattle.program.specs.Drafts.{source_of}
-use Rattle.program.proofs.Spans.{inside_last, open_last, sizes_last}
-use Rattle.program.proofs.Drafts.{tasks_count, total_count, last_size, ends_here, sizes_here, grown, with_tasks}
+use Rattle.program.proofs.Spans.{longer, length_last, last_longer, grown}
+use Rattle.program.proofs.Drafts.{tasks_count, total_count, with_tasks}
 use Rattle.program.proofs.draft.Draft.append.Goals as goal
 
 abbrev none : Span
 none = record { first = 0; size = 0 }
 
-pub listed : goal.listed
-listed c = let all = total_count c.args.self.now in let full = c.args.self.now.full in omega arith
-
-pub bounds-self-self : goal.bounds-self-self
-bounds-self-self c = let all = total_count c.args.self.now in omega arith
-
-pub overflow_add-self : goal.overflow_add-self
-overflow_add-self c =
+pub overflow_add-span : goal.overflow_add-span
+overflow_add-span c =
     let d = c.args.self.now in
     let many = tasks_count d in
-    let e : d.tasks ≡ d.tasks - 1 + 1 = omega arith in
-    let size = last_size d (d.tasks - 1) e none in
-    omega arith
+    let same = ap (λ (xs : List Span). get_or xs (c.len-last.result - 1) none) c.as_slice.ensures.value in
+    let size = length_last none d.statements 0 _ d.spans (c.len-last.result - 1) d.laid (omega arith) (omega (arith, c.requires.some, c.len-last.ensures.value)) in
+    rw same (omega (arith, c.requires.room))
+
+-- the last span is longer, and the statement stands behind the others
+spans_then : (c : goal.After-push) → c.set.new.self ≡ set c.args.self.now.spans (length c.args.self.now.spans - 1) (longer (get_or c.args.self.now.spans (length c.args.self.now.spans - 1) none))
+spans_then c =
+    let d = c.args.self.now in
+    c.set.ensures
+    ∙ ap₂ (λ k (xs : List Span). set d.spans (k - 1) (longer (get_or xs (k - 1) none))) c.len-last.ensures.value c.as_slice.ensures.value
+
+statements_then : (c : goal.After-push) → c.push.new.self ≡ c.args.self.now.statements ++ c.args.statement ∷ []
+statements_then c =
+    let all = total_count c.args.self.now in
+    c.push.ensures.after ∙ pushed_room 256 c.args.self.now.statements _ (omega (arith, c.requires.space))
+
+one_longer : (c : goal.After-push) → length c.push.new.self ≡ length c.args.self.now.statements + 1
+one_longer c = ap length (statements_then c) ∙ length-append c.args.self.now.statements (c.args.statement ∷ [])
 
 pub invariant_of-self : goal.invariant_of-self
 invariant_of-self c =
     let d = c.args.self.now in
     let many = tasks_count d in
     let all = total_count d in
-    let k : ℕ = d.tasks - 1 in
-    let e : d.tasks ≡ k + 1 = omega arith in
-    let size = last_size d k e none in
+    let k : ℕ = length d.spans - 1 in
+    let some : length d.spans ≡ suc k = omega (arith, c.requires.some) in
+    let size = length_last none d.statements 0 _ d.spans k d.laid (omega arith) some in
     let few = d.few in
-    let full = d.full in
-    let old : Span = get_or d.spans k none in
-    let x : Span = record { first = old.first; size = old.size + 1 } in
-    let h : k < length d.spans = omega arith in
-    let end = ends_here d k e none in
-    let sum = sizes_last d.spans k x h d.tasks e in
-    let before = sizes_here d k e none in
-    let inside = inside_last d.spans k x h d.tasks e d.count (d.count + 1) (λ t z l. d.inside t z (omega arith)) (omega arith) (omega arith) (omega arith) in
-    let open_end = open_last d.spans k x h d.tasks e (d.count + 1) (omega arith) in
+    let as_many = ap length (spans_then c) ∙ length-set d.spans k (longer (get_or d.spans k none)) in
     record {
-      few = omega arith;
-      full = (length-set d.table _ _ ∙ full.0, length-set d.spans k x ∙ full.1);
-      inside = inside;
-      last = open_end;
-      whole = omega arith;
+      few = omega (arith, c.requires.space, one_longer c);
+      laid =
+          subst (λ (xs : List Span). LieBehind 0 xs (length c.push.new.self)) (sym (spans_then c))
+          (subst (LieBehind 0 _) (sym (one_longer c)) (last_longer none 0 _ d.spans k d.laid some (omega (arith, c.requires.room))));
     }
 
 pub returns : goal.returns
 returns c =
     let d = c.args.self.now in
     let many = tasks_count d in
-    let all = total_count d in
-    let k : ℕ = d.tasks - 1 in
-    let e : d.tasks ≡ k + 1 = omega arith in
-    ap (with_tasks (source_of d)) (grown d k e none c.args.statement (omega arith))
+    let k : ℕ = length d.spans - 1 in
+    let some : length d.spans ≡ suc k = omega (arith, c.requires.some) in
+    ap₂ (λ table spans. with_tasks (source_of d) (map (part table) spans)) (statements_then c.before) (spans_then c.before)
+    ∙ ap (with_tasks (source_of d)) (grown none d.statements c.args.statement 0 _ d.spans k d.laid (omega arith) some)

@@ -1,34 +1,39 @@
 -- `Draft::open`: what the search leaves to show.
-use Rattle.std.proofs.Common.{◌≡◌, ◌+◌, ◌<◌, length, refl, ap, ◌∙◌, arith, length-set}
+use Rattle.std.proofs.Common.{ℕ, [], ◌∷◌, ◌++◌, ◌≡◌, length, map, sym, ap, subst, List, ◌∙◌, arith, length-append}
+use Rattle.std.proofs.lemmas.List.{map_push}
+use Rattle.words.proofs.Held.{pushed_room}
 use Rattle.program.specs.declared.span.Span.{Span}
+use Rattle.program.specs.Spans.{LieBehind, part}
 use Rattle.program.specs.Drafts.{source_of}
-use Rattle.program.proofs.Spans.{inside_last, open_last, sizes_last}
-use Rattle.program.proofs.Drafts.{tasks_count, opened, with_tasks}
+use Rattle.program.proofs.Spans.{opened}
+use Rattle.program.proofs.Drafts.{tasks_count, total_count, with_tasks}
 use Rattle.program.proofs.draft.Draft.open.Goals as goal
+
+abbrev empty_at : ℕ → Span
+empty_at n = record { first = n; size = 0 }
+
+-- one span more, behind the statements
+one_more : (c : goal.After-push) → c.push.new.self ≡ c.args.self.now.spans ++ empty_at (length c.args.self.now.statements) ∷ []
+one_more c =
+    let d = c.args.self.now in
+    let many = tasks_count d in
+    c.push.ensures.after
+    ∙ pushed_room 16 d.spans _ (omega (arith, c.requires))
+    ∙ ap (λ n. d.spans ++ empty_at n ∷ []) (c.total-first.ensures ∙ total_count d)
 
 pub invariant_of-self : goal.invariant_of-self
 invariant_of-self c =
     let d = c.args.self.now in
-    let few = d.few in
-    let full = d.full in
     let many = tasks_count d in
-    let x : Span = record { first = d.count; size = 0 } in
-    let h : d.tasks < length d.spans = omega arith in
-    let one : d.tasks + 1 ≡ d.tasks + 1 = refl in
-    let sum = sizes_last d.spans d.tasks x h (d.tasks + 1) one in
-    let whole = d.whole in
-    let inside = inside_last d.spans d.tasks x h (d.tasks + 1) one d.count d.count d.inside (omega arith) (omega arith) (omega arith) in
-    let open_end = open_last d.spans d.tasks x h (d.tasks + 1) one d.count (omega arith) in
+    let few = d.few in
+    let longer = length-append d.spans (empty_at (length d.statements) ∷ []) in
     record {
-      few = omega arith;
-      full = (full.0, length-set d.spans d.tasks x ∙ full.1);
-      inside = inside;
-      last = open_end;
-      whole = omega arith;
+      few = omega (arith, c.requires, ap length (one_more c));
+      laid = subst (λ (xs : List Span). LieBehind 0 xs (length d.statements)) (sym (one_more c)) (opened 0 (length d.statements) d.spans d.laid);
     }
 
 pub returns : goal.returns
 returns c =
     let d = c.args.self.now in
-    let few : d.tasks < 16 = omega (arith, tasks_count d, c.requires) in
-    ap (with_tasks (source_of d)) (opened d (record { first = d.count; size = 0 }) refl few)
+    ap (λ xs. with_tasks (source_of d) (map (part d.statements) xs)) (one_more c.before)
+    ∙ ap (with_tasks (source_of d)) (map_push (part d.statements) d.spans (empty_at (length d.statements)))
