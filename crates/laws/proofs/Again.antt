@@ -9,7 +9,8 @@ use Rattle.program.specs.declared.statement.Test.{Test}
 use Rattle.program.specs.declared.statement.Target.{Target}
 use Rattle.program.specs.declared.statement.Next.{Next}
 use Rattle.program.specs.declared.statement.Statement.{Statement}
-use Rattle.program.specs.Shapes.{some, operands}
+use Rattle.std.specs.List.{list_any}
+use Rattle.program.specs.Shapes.{operands}
 use Rattle.program.specs.Runs.{Run, value, result_of, compares, holds, assign, emit, choose, after, passes, taken, exec}
 use Rattle.program.specs.Paths.{operand_is, target_is, reads, writes, written, read_first}
 use Rattle.laws.specs.Again.{SameOutside, Agree, Unread, RunsAgain, EndsAgain}
@@ -46,7 +47,7 @@ module _ {W : ℕ → Bool} {σ μ : Run} (agree : Agree W σ μ) where
   same_value (Operand.Local l) h = ap (λ xs. get_or xs l.number 0) agree.locals
   same_value (Operand.Input i) h = ap (λ xs. get_or xs i.number 0) agree.inputs
 
-  same_values : (xs : List Operand) → ((v : ℕ) → W v ≡ true → some (operand_is v) xs ≡ false) → SameValues σ μ xs
+  same_values : (xs : List Operand) → ((v : ℕ) → W v ≡ true → list_any (operand_is v) xs ≡ false) → SameValues σ μ xs
   same_values [] h = tt
   same_values (a ∷ xs) h = (same_value a (λ v w. (or_parts _ _ (h v w)).0), same_values xs (λ v w. (or_parts (operand_is v a) _ (h v w)).1))
 

@@ -1,9 +1,9 @@
 -- The paths of a task, the one that a run takes, and what the write-after-read rule logs on them.
 use Rattle.std.proofs.Common.{◌≡◌, ℕ, zero, suc, Bool, true, false, cond, not, ◌&&◌, ◌⊎◌, List, [], ◌∷◌, ◌++◌, map, length, sym, refl, ap, ◌∙◌, subst, inl, inr, arith}
-use Rattle.std.specs.List.{flat_map}
+use Rattle.std.specs.List.{flat_map, list_any}
 use Rattle.std.proofs.lemmas.Bool.{cases_Bool, false≢true, or_parts, or_cases, or_from, or_left, or_right, and_parts, and_from, not-true, not_from_false}
 use Rattle.program.specs.declared.statement.Statement.{Statement}
-use Rattle.program.specs.Shapes.{some, ways}
+use Rattle.program.specs.Shapes.{ways}
 use Rattle.program.specs.Runs.{Run, holds, after, passes}
 use Rattle.program.specs.Paths.{paths, ◌∈◌, reads, writes, written, read_first, LoggedOn}
 use Rattle.laws.specs.Again.{TakesAPath, PathsShort, LoggedTested, UnloggedUnread}
@@ -115,17 +115,17 @@ unlogged_unread task v π is_path w unlogged =
     ]
 
 -- a test that passes at some element of a list
-some_from : {A : Type 0} (p : A → Bool) (x : A) (xs : List A) → x ∈ xs → p x ≡ true → some p xs ≡ true
-some_from p x [] h t = absurd h
-some_from p x (y ∷ ys) (inl e) t = or_left _ _ (ap p (sym e) ∙ t)
-some_from p x (y ∷ ys) (inr h) t = or_right _ _ (some_from p x ys h t)
+any_from : {A : Type 0} (p : A → Bool) (x : A) (xs : List A) → x ∈ xs → p x ≡ true → list_any p xs ≡ true
+any_from p x [] h t = absurd h
+any_from p x (y ∷ ys) (inl e) t = or_left _ _ (ap p (sym e) ∙ t)
+any_from p x (y ∷ ys) (inr h) t = or_right _ _ (any_from p x ys h t)
 
-some_to : {A : Type 0} (p : A → Bool) (xs : List A) → some p xs ≡ true → (x : A) × (x ∈ xs) × (p x ≡ true)
-some_to p [] h = absurd (false≢true h)
-some_to p (y ∷ ys) h =
-    elim (or_cases (p y) (some p ys) h) [
+any_to : {A : Type 0} (p : A → Bool) (xs : List A) → list_any p xs ≡ true → (x : A) × (x ∈ xs) × (p x ≡ true)
+any_to p [] h = absurd (false≢true h)
+any_to p (y ∷ ys) h =
+    elim (or_cases (p y) (list_any p ys) h) [
       | inl t ↦ (y, inl refl, t)
-      | inr t ↦ let on = some_to p ys t in (on.0, inr on.1, on.2)
+      | inr t ↦ let on = any_to p ys t in (on.0, inr on.1, on.2)
     ]
 
 pub logged_tested : LoggedTested
@@ -133,9 +133,9 @@ logged_tested task v =
     let test : List Statement → Bool = λ π. read_first π v && written π v in (
       λ l.
           let on = l.2 in
-          some_from test l.0 (paths 0 task) l.1 (rw on.parts (to_tests on.before on.reader on.behind v on.reads_it on.unwritten on.then_written)),
+          any_from test l.0 (paths 0 task) l.1 (rw on.parts (to_tests on.before on.reader on.behind v on.reads_it on.unwritten on.then_written)),
       λ h.
-          let on = some_to test (paths 0 task) h in
+          let on = any_to test (paths 0 task) h in
           let p = and_parts _ _ on.2 in
           (on.0, on.1, from_tests on.0 v p.0 p.1),
     )

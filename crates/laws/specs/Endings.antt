@@ -2,6 +2,7 @@
 use Rattle.std.specs.Prelude.{◌≡◌, ℕ, Bool, true, false, not, ◌&&◌, List, [], ◌∷◌}
 use Rattle.program.specs.declared.statement.Statement.{Statement}
 use Rattle.program.specs.Shapes.{ending}
+use Rattle.program.specs.declared.check.Scope.{Scope}
 use Rattle.program.specs.Paths.{paths, ◌∈◌}
 use Rattle.program.specs.Sound.{task_sound}
 
@@ -11,6 +12,6 @@ ends_once [] = false
 ends_once (s ∷ []) = ending s
 ends_once (s ∷ (r ∷ π)) = not (ending s) && ends_once (r ∷ π)
 
--- Among V variables, L locals and T tasks: every path of a well-formed task ends in an ending, and has no other.
+-- Whatever the program declares, every path of a well-formed task ends in an ending, and has no other.
 abbrev pub EndsOnce : Type 0
-EndsOnce = (V L T : ℕ) (task : List Statement) → task_sound V L T task ≡ true → (π : List Statement) → π ∈ paths 0 task → ends_once π ≡ true
+EndsOnce = (scope : Scope) (task : List Statement) → task_sound scope task ≡ true → (π : List Statement) → π ∈ paths 0 task → ends_once π ≡ true

@@ -1,10 +1,10 @@
 -- The paths of a task, what is read and written on them, and the write-after-read rule.
 use Rattle.std.specs.Prelude.{◌≡◌, ℕ, zero, suc, ◌+◌, Bool, true, false, not, ◌&&◌, ◌||◌, ◌⊎◌, List, [], ◌∷◌, ◌++◌, map, ◌==◌}
-use Rattle.std.specs.List.{flat_map}
+use Rattle.std.specs.List.{flat_map, list_any}
 use Rattle.program.specs.declared.statement.Operand.{Operand}
 use Rattle.program.specs.declared.statement.Target.{Target}
 use Rattle.program.specs.declared.statement.Statement.{Statement}
-use Rattle.program.specs.Shapes.{some, operands, targets, emits, ways}
+use Rattle.program.specs.Shapes.{operands, targets, emits, ways}
 
 -- All paths, with k statements still to be passed over; a path is the list of its statements.
 abbrev pub paths : ℕ → List Statement → List (List Statement)
@@ -31,11 +31,11 @@ target_is v (Target.Local l) = false
 
 -- s reads the variable v
 abbrev pub reads : Statement → ℕ → Bool
-reads s v = some (operand_is v) (operands s)
+reads s v = list_any (operand_is v) (operands s)
 
 -- s writes the variable v
 abbrev pub writes : Statement → ℕ → Bool
-writes s v = some (target_is v) (targets s)
+writes s v = list_any (target_is v) (targets s)
 
 -- v is written on the path
 abbrev pub written : List Statement → ℕ → Bool
@@ -68,4 +68,4 @@ Logged task v = (π : List Statement) × (π ∈ paths 0 task) × LoggedOn π v
 
 -- the same as a test that computes
 abbrev pub logged_test : List Statement → ℕ → Bool
-logged_test task v = some (λ π. read_first π v && written π v) (paths 0 task)
+logged_test task v = list_any (λ π. read_first π v && written π v) (paths 0 task)

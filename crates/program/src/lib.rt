@@ -1,7 +1,7 @@
 // Programs of lending tasks: their statements, and how a program is made of them.
 #![tactic(auto)]
 
-mod check;
+pub mod check;
 pub mod draft;
 pub mod program;
 mod span;
