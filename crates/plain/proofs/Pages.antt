@@ -1,8 +1,7 @@
 -- The words of a page.
 use Rattle.std.proofs.Common.{◌≡◌, ℕ, suc, ◌+◌, ◌-◌, ◌<◌, ◌≤◌, List, ◌∷◌, ◌++◌, length, get_or, replicate, sym, refl, ap, ◌∙◌, inl, inr, arith, length-append, length-take-le, get_or-take}
-use Rattle.std.proofs.lemmas.List.{get_or_append_left, get_or-append_right, get_or_past}
+use Rattle.std.proofs.lemmas.List.{get_or_append_left, get_or-append_right, get_or_past, get_or-replicate}
 use Rattle.std.proofs.lemmas.Bool.{cases_lt}
-use Rattle.words.proofs.Kept.{zeros}
 use Rattle.plain.specs.Plain.{Plain, eight, head_words, page}
 
 eight_long : (xs : List ℕ) → length (eight xs) ≡ 8
@@ -13,7 +12,7 @@ eight_at xs k h =
     get_or-take 8 (xs ++ replicate 8 0) k 0 h
     ∙ elim (cases_lt k (length xs)) [
       | inl l ↦ get_or_append_left xs (replicate 8 0) 0 k l
-      | inr l ↦ get_or-append_right xs (replicate 8 0) (length xs) k 0 refl l ∙ zeros 8 (k - length xs) ∙ sym (get_or_past xs k 0 l)
+      | inr l ↦ get_or-append_right xs (replicate 8 0) (length xs) k 0 refl l ∙ get_or-replicate 8 (k - length xs) 0 0 (omega arith) ∙ sym (get_or_past xs k 0 l)
     ]
 
 behind_four : (a b c d : ℕ) (xs : List ℕ) (k : ℕ) → 4 ≤ k → get_or (a ∷ b ∷ c ∷ d ∷ xs) k 0 ≡ get_or xs (k - 4) 0

@@ -8,7 +8,8 @@ use Rattle.program.specs.declared.statement.Statement.{Statement}
 use Rattle.program.specs.declared.statement.Target.{Target}
 use Rattle.program.specs.Shapes.{operands, targets, choices}
 use Rattle.program.specs.Runs.{Run, holds, after, passes, exec}
-use Rattle.program.specs.Sound.{Source, operand_declared, target_declared, declared, placed, all_placed, task_of, sound}
+use Rattle.program.specs.Sound.{scope_of, Source, operand_declared, target_declared, declared, placed, all_placed, task_of, sound}
+use Rattle.program.specs.declared.check.Scope.{Scope}
 use Rattle.program.proofs.Programs.{placed_at, some_task}
 use Rattle.laws.proofs.Kept.{keeps_unwritten}
 use Rattle.plain.specs.Plain.{Plain, begun, after_visit, visits, page}
@@ -57,40 +58,40 @@ variables_kept p rows (suc n) =
 pub page_is_long : PageLength
 page_is_long p rows n = page-length (visits p rows n) ∙ ap (λ k. 12 + k) (variables_kept p rows n)
 
--- What comes next, among T tasks.
-module _ (T : ℕ) where
-  known_after : (s : Statement) (σ : Run) → list_all (λ t. ltb t.number T) (choices s) ≡ true → Known T σ.chosen → Known T (after s σ).chosen
+-- What comes next, among the tasks that are declared.
+module _ (scope : Scope) where
+  known_after : (s : Statement) (σ : Run) → list_all (λ t. ltb t.number scope.tasks) (choices s) ≡ true → Known scope.tasks σ.chosen → Known scope.tasks (after s σ).chosen
   known_after Statement.Stop σ h c = tt
   known_after (Statement.Set (Target.Variable v) a o b) σ h c = c
   known_after (Statement.Set (Target.Local l) a o b) σ h c = c
   known_after (Statement.Emit a) σ h c = c
   known_after (Statement.Skip k t) σ h c = c
-  known_after (Statement.Next t) σ h c = ltb-true t.number T (and_parts (ltb t.number T) true h).0
+  known_after (Statement.Next t) σ h c = ltb-true t.number scope.tasks (and_parts (ltb t.number scope.tasks) true h).0
   known_after (Statement.Choose x t u) σ h c =
-      let p = and_parts (ltb t.number T) (ltb u.number T && true) h in
-      elim (holds σ x) as (λ b. Known T (cond b (Next.Task t) (Next.Task u))) [
-        | true ↦ ltb-true t.number T p.0
-        | false ↦ ltb-true u.number T (and_parts (ltb u.number T) true p.1).0
+      let p = and_parts (ltb t.number scope.tasks) (ltb u.number scope.tasks && true) h in
+      elim (holds σ x) as (λ b. Known scope.tasks (cond b (Next.Task t) (Next.Task u))) [
+        | true ↦ ltb-true t.number scope.tasks p.0
+        | false ↦ ltb-true u.number scope.tasks (and_parts (ltb u.number scope.tasks) true p.1).0
       ]
 
   -- the tasks that a statement names are there
-  choices_known : (V L : ℕ) (s : Statement) → declared V L T s ≡ true → list_all (λ t. ltb t.number T) (choices s) ≡ true
-  choices_known V L s h =
-      let p = and_parts (list_all (operand_declared V L) (operands s)) (list_all (target_declared V L) (targets s) && list_all (λ t. ltb t.number T) (choices s)) h in
-      (and_parts (list_all (target_declared V L) (targets s)) (list_all (λ t. ltb t.number T) (choices s)) p.1).1
+  choices_known : (s : Statement) → declared scope s ≡ true → list_all (λ t. ltb t.number scope.tasks) (choices s) ≡ true
+  choices_known s h =
+      let p = and_parts (list_all (operand_declared scope) (operands s)) (list_all (target_declared scope) (targets s) && list_all (λ t. ltb t.number scope.tasks) (choices s)) h in
+      (and_parts (list_all (target_declared scope) (targets s)) (list_all (λ t. ltb t.number scope.tasks) (choices s)) p.1).1
 
-  known_end : (V L k : ℕ) (task : List Statement) (σ : Run) → all_placed V L T task ≡ true → Known T σ.chosen → Known T (exec k task σ).chosen
-  known_end V L k [] σ h c = c
-  known_end V L (suc k) (s ∷ rest) σ h c = known_end V L k rest σ (and_parts (declared V L T s && placed s (length rest)) (all_placed V L T rest) h).1 c
-  known_end V L zero (s ∷ rest) σ h c =
-      let p = and_parts (declared V L T s && placed s (length rest)) (all_placed V L T rest) h in
-      let named = choices_known V L s (and_parts (declared V L T s) (placed s (length rest)) p.0).0 in
-      known_end V L (passes s σ) rest (after s σ) p.1 (known_after s σ named c)
+  known_end : (k : ℕ) (task : List Statement) (σ : Run) → all_placed scope task ≡ true → Known scope.tasks σ.chosen → Known scope.tasks (exec k task σ).chosen
+  known_end k [] σ h c = c
+  known_end (suc k) (s ∷ rest) σ h c = known_end k rest σ (and_parts (declared scope s && placed s (length rest)) (all_placed scope rest) h).1 c
+  known_end zero (s ∷ rest) σ h c =
+      let p = and_parts (declared scope s && placed s (length rest)) (all_placed scope rest) h in
+      let named = choices_known s (and_parts (declared scope s) (placed s (length rest)) p.0).0 in
+      known_end (passes s σ) rest (after s σ) p.1 (known_after s σ named c)
 
 known_visit : (p : Source) → sound p ≡ true → (row : List ℕ) (number : ℕ) (next : Next) (emitted variables : List ℕ) → Known (length p.tasks) next
     → Known (length p.tasks) (after_visit p row (record { number = number; next = next; emitted = emitted; variables = variables })).next
 known_visit p h row number (Next.Task t) emitted variables c =
-    known_end (length p.tasks) (length p.firsts) p.locals 0 (task_of p t.number) (begun row variables) (placed_at p h t.number c) tt
+    known_end (scope_of p) 0 (task_of p t.number) (begun row variables) (placed_at p h t.number c) tt
 known_visit p h row number Next.Stopped emitted variables c = tt
 
 pub next_known : NextKnown

@@ -2,7 +2,6 @@
 ghost use Rattle.std.specs.Prelude.{◌≡◌, ◌+◌, ◌≤◌, [], length};
 ghost use Rattle.program.specs.Shapes.{emits};
 ghost use Rattle.program.specs.Runs.{value, result_of, compares, holds, assign, after, passes};
-ghost use Rattle.plain.specs.Frames.{run_of};
 ghost use Rattle.plain.specs.Plain.{begun};
 
 use crate::frame::Frame;
@@ -36,7 +35,7 @@ fn compare(comparison: Comparison, left: u16, right: u16) -> bool
 impl Frame {
     // What a visit begins with: the locals 0, the record empty.
     pub(crate) fn new(row: &[u16; 8], variables: Words<48>) -> Frame
-        ensures { run_of result ≡ begun row.now variables }
+        ensures { result ≡ begun row.now variables }
     {
         Frame {
             inputs: *row,
@@ -48,7 +47,7 @@ impl Frame {
     }
 
     pub(crate) fn value(&self, operand: Operand) -> u16
-        ensures { result ≡ value (run_of self.now) operand }
+        ensures { result ≡ value self.now operand }
     {
         match operand {
             Operand::Number(number) => number,
@@ -59,7 +58,7 @@ impl Frame {
     }
 
     fn holds(&self, test: Test) -> bool
-        ensures { result ≡ holds (run_of self.now) test }
+        ensures { result ≡ holds self.now test }
     {
         compare(
             test.comparison,
@@ -69,7 +68,7 @@ impl Frame {
     }
 
     fn assign(&mut self, target: Target, word: u16)
-        ensures { run_of self.new ≡ assign target word (run_of self.old) }
+        ensures { self.new ≡ assign target word self.old }
     {
         match target {
             Target::Variable(variable) => self.variables.set(variable.number() as usize, word),
@@ -79,7 +78,7 @@ impl Frame {
 
     // How many statements behind it are passed over.
     pub(crate) fn passes(&self, statement: Statement) -> u8
-        ensures { result ≡ passes statement (run_of self.now) }
+        ensures { result ≡ passes statement self.now }
     {
         match statement {
             Statement::Skip { reach, test } => { if self.holds(test) { reach.count() } else { 0 } }
@@ -90,7 +89,7 @@ impl Frame {
     // The statement's work, for which the record has room.
     pub(crate) fn work(&mut self, statement: Statement)
         requires { length self.old.emitted + emits statement ≤ 8 }
-        ensures { run_of self.new ≡ after statement (run_of self.old) }
+        ensures { self.new ≡ after statement self.old }
     {
         match statement {
             Statement::Stop => self.chosen = Next::Stopped,

@@ -51,8 +51,8 @@ impl<'p> Machine<'p> {
         if buffer.len() != 12 + self.variables.len() {
             return Err(WrongLength);
         }
-        for place in 0..buffer.len() {
-            buffer[place] = self.word(place);
+        for (place, word) in buffer.iter_mut().enumerate() {
+            *word = self.word(place);
         }
         Ok(())
     }

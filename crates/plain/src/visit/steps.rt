@@ -3,7 +3,6 @@ ghost use Rattle.std.specs.Prelude.{◌≡◌};
 ghost use Rattle.program.specs.Runs.{value};
 ghost use Rattle.program.specs.Sound.{task_of};
 ghost use Rattle.program.specs.Programs.{program_source};
-ghost use Rattle.plain.specs.Frames.{run_of};
 ghost use Rattle.plain.specs.Steps.{standing, starting, coming, stepped, ends};
 
 use crate::frame::Frame;
@@ -58,8 +57,8 @@ impl<'p> Visit<'p> {
     }
 
     // Does all that is left of the task.
-    pub(crate) fn finish(mut self) -> Frame
-        ensures { run_of result ≡ ends (standing self.entry) }
+    pub(crate) fn finish(&mut self) -> Frame
+        ensures { result ≡ ends (standing self.old) }
     {
         while self.step().is_some() {}
         self.frame
