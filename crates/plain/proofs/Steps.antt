@@ -2,13 +2,15 @@
 use Rattle.std.proofs.Common.{◌≡◌, ℕ, zero, suc, ◌+◌, ◌-◌, ◌<◌, ◌≤◌, List, [], ◌∷◌, length, get_or, drop, Some, None, sym, ap, ◌∙◌, subst, ap₂, arith}
 use Rattle.std.specs.List.{slice_get}
 use Rattle.std.proofs.lemmas.List.{drop_all}
+use Rattle.words.specs.Lists.{items}
 use Rattle.program.specs.declared.statement.Statement.{Statement}
 use Rattle.program.specs.Shapes.{emits}
-use Rattle.program.specs.Runs.{Run, after, passes, taken, exec}
+use Rattle.program.specs.Runs.{after, passes, taken, exec}
 use Rattle.program.specs.Paths.{emitted_on}
 use Rattle.laws.proofs.Runs.{taken_on, exec_on}
 use Rattle.laws.proofs.Kept.{emitted_after}
-use Rattle.plain.specs.Frames.{Room}
+use Rattle.plain.specs.declared.frame.Frame.{Frame}
+use Rattle.plain.specs.Frames.{run_of, Room}
 use Rattle.plain.specs.Steps.{Standing, coming, step_by, stepped, ends}
 
 -- an element that is there
@@ -22,19 +24,19 @@ nth_none [] i e = omega arith
 nth_none (y ∷ xs) zero e = let z : ◌≡◌ {A = ℕ} 0 1 = cc in absurd (omega arith)
 nth_none (y ∷ xs) (suc i) e = let on = nth_none xs i e in omega arith
 
-module _ (task : List Statement) (i : ℕ) (σ : Run) (s : Statement) (here : slice_get task i ≡ Some s) (room : Room task i σ) where
-  rest : emitted_on (taken 0 (drop i task) σ) ≡ emits s + emitted_on (taken 0 (drop (i + 1 + passes s σ) task) (after s σ))
-  rest = let at = nth_some task i s s here in ap emitted_on (taken_on task i σ s s at.0 at.1)
+module _ (task : List Statement) (i : ℕ) (f : Frame) (s : Statement) (here : slice_get task i ≡ Some s) (room : Room task i f) where
+  rest : emitted_on (taken 0 (drop i task) (run_of f)) ≡ emits s + emitted_on (taken 0 (drop (i + 1 + passes s (run_of f)) task) (after s (run_of f)))
+  rest = let at = nth_some task i s s here in ap emitted_on (taken_on task i (run_of f) s s at.0 at.1)
 
-  pub room_here : length σ.emitted + emits s ≤ 8
+  pub room_here : length (items f.emitted) + emits s ≤ 8
   room_here = let r = rest in omega arith
 
-  pub room_on : (μ : Run) (n : ℕ) → μ ≡ after s σ → n ≡ i + 1 + passes s σ → Room task n μ
-  room_on μ n did at =
+  pub room_on : (g : Frame) (n : ℕ) → run_of g ≡ after s (run_of f) → n ≡ i + 1 + passes s (run_of f) → Room task n g
+  room_on g n did at =
       let r = rest in
-      let more = emitted_after s σ in
-      let same = ap (λ (ρ : Run). length ρ.emitted) did in
-      let same_rest = ap₂ (λ ρ k. emitted_on (taken 0 (drop k task) ρ)) did at in
+      let more = emitted_after s (run_of f) in
+      let same = ap (λ σ. length σ.emitted) did in
+      let same_rest = ap₂ (λ σ k. emitted_on (taken 0 (drop k task) σ)) did at in
       omega arith
 
 -- A step does not alter where the run ends, and leaves less to do.

@@ -1,6 +1,6 @@
 -- A machine as a value, and what its calls answer.
 use Rattle.std.specs.Prelude.{◌≡◌, ℕ, ◌<◌, cond, List, [], length, Some, None, Ok, Err, Option, Result, ◌==◌, ◌≢◌}
-use Rattle.program.specs.declared.statement.Index.{Index}
+use Rattle.words.specs.Lists.{items}
 use Rattle.program.specs.declared.statement.Next.{Next}
 use Rattle.program.specs.Sound.{Source, task_of}
 use Rattle.program.specs.Programs.{program_source}
@@ -12,7 +12,7 @@ use Rattle.plain.specs.Plain.{Plain, last_number, left_by, after_visit, page}
 use Rattle.plain.specs.Steps.{Standing, standing, starting, ends}
 
 abbrev pub plain_of : Machine → Plain
-plain_of m = record { number = m.number; next = m.next; emitted = m.emitted; variables = m.variables }
+plain_of m = record { number = m.number; next = m.next; emitted = items m.emitted; variables = items m.variables }
 
 abbrev pub rules_of : Machine → Source
 rules_of m = program_source m.program.now
@@ -23,11 +23,6 @@ visit_refusal m = elim m.next [
   | Next.Task t ↦ cond (m.number == last_number) (Some Refusal.LastNumber) None
   | Next.Stopped ↦ Some Refusal.Stopped
 ]
-
--- The task of the next visit, or why there is none.
-abbrev pub Comes : Plain → Result (Index 16) Refusal → Type 0
-Comes m (Ok t) = (visit_refusal m ≡ None) × (m.number < last_number) × (m.next ≡ Next.Task t)
-Comes m (Err e) = visit_refusal m ≡ Some e
 
 -- where a visit stands before its first statement
 abbrev pub at_begin : Source → List ℕ → Plain → Standing

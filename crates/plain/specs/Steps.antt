@@ -6,6 +6,7 @@ use Rattle.program.specs.Runs.{Run, after, passes, exec}
 use Rattle.program.specs.Sound.{task_of}
 use Rattle.program.specs.Programs.{program_source}
 use Rattle.plain.specs.declared.visit.Visit.{Visit}
+use Rattle.plain.specs.Frames.{run_of}
 use Rattle.plain.specs.Plain.{begun}
 
 -- a run that has come to the statement at i of its task
@@ -15,7 +16,7 @@ pub record Standing : Type 0 where
   pub run : Run
 
 abbrev pub standing : Visit → Standing
-standing v = record { task = task_of (program_source v.program.now) v.task.number; at = v.at; run = v.frame }
+standing v = record { task = task_of (program_source v.program.now) v.task.number; at = v.at; run = run_of v.frame }
 
 -- before the first statement
 abbrev pub starting : List Statement → List ℕ → List ℕ → Standing

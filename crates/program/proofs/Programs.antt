@@ -3,6 +3,8 @@ use Rattle.std.proofs.Common.{◌≡◌, ℕ, ◌<◌, ◌≤◌, Bool, true, �
 use Rattle.std.proofs.lemmas.List.{get_or_default, get_or_past}
 use Rattle.std.proofs.lemmas.List.Sums.{AllPass-from_list_all, list_all-from_AllPass}
 use Rattle.std.proofs.lemmas.Bool.{and_from, and_parts, le-leb, lt-ltb, leb-true, ltb-true, cases_lt}
+use Rattle.words.specs.Lists.{items}
+use Rattle.words.proofs.Kept.{items_few}
 use Rattle.program.specs.declared.draft.Draft.{Draft}
 use Rattle.program.specs.declared.program.Program.{Program}
 use Rattle.program.specs.declared.statement.Statement.{Statement}
@@ -13,16 +15,19 @@ use Rattle.program.specs.Drafts.{source_of}
 use Rattle.program.specs.Programs.{program_source}
 use Rattle.program.proofs.Drafts.{tasks_count, total_count}
 
-pub counts_checked : (d : Draft) → 0 < length d.spans → counts_sound (source_of d) ≡ true
+pub counts_checked : (d : Draft) → 0 < length (items d.spans) → counts_sound (source_of d) ≡ true
 counts_checked d some =
     let few = d.few in
+    let variables = items_few d.firsts in
+    let spans = items_few d.spans in
+    let statements = items_few d.statements in
     let tasks = tasks_count d in
     let all = total_count d in
     let p : Source = source_of d in
     and_from _ _ (and_from _ _ (le-leb (length p.firsts) 48 (omega arith)) (le-leb p.locals 8 (omega arith)))
     (and_from _ _ (and_from _ _ (lt-ltb 0 (length p.tasks) (omega arith)) (le-leb (length p.tasks) 16 (omega arith))) (le-leb (total p.tasks) 256 (omega arith)))
 
-pub all_checked : (d : Draft) → 0 < length d.spans → ((u : ℕ) → u < length d.spans → sound_at (source_of d) u ≡ true) → sound (source_of d) ≡ true
+pub all_checked : (d : Draft) → 0 < length (items d.spans) → ((u : ℕ) → u < length (items d.spans) → sound_at (source_of d) u ≡ true) → sound (source_of d) ≡ true
 all_checked d some each =
     let tasks = tasks_count d in
     let p : Source = source_of d in

@@ -1,5 +1,6 @@
 -- What a draft says, and what each step of its making adds to that.
 use Rattle.std.specs.Prelude.{◌≡◌, ℕ, ◌+◌, ◌<◌, ◌≤◌, ◌⊎◌, List, [], ◌∷◌, ◌++◌, map, length, Ok, Err, Result}
+use Rattle.words.specs.Lists.{items}
 use Rattle.program.specs.declared.statement.Index.{Index}
 use Rattle.program.specs.declared.statement.Statement.{Statement}
 use Rattle.program.specs.declared.draft.Draft.{Draft}
@@ -9,9 +10,9 @@ use Rattle.program.specs.Sound.{Source, total}
 
 abbrev pub source_of : Draft → Source
 source_of d = record {
-  firsts = d.firsts;
+  firsts = items d.firsts;
   locals = d.locals;
-  tasks = map (part d.statements) d.spans;
+  tasks = map (part (items d.statements)) (items d.spans);
 }
 
 -- nothing yet

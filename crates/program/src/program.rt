@@ -7,7 +7,7 @@ use crate::draft::Draft;
 
 pub mod make;
 
-#[derive(Clone, Copy, Debug)]
+#[derive(Clone, Copy)]
 pub struct Program {
     draft: Draft,
     ghost checked: { sound (source_of draft) ≡ true },

@@ -1,8 +1,6 @@
 // The statements of a task, and what they name.
 ghost use Rattle.std.specs.Prelude.{◌≡◌, ◌<◌, ◌≤◌, MatchOption};
 
-use words::filler::Filler;
-
 // One of at most N things of a kind, by its number in the order of their declarations.
 #[derive(Clone, Copy, PartialEq, Eq, Debug)]
 pub struct Index<const N: u8> {
@@ -106,8 +104,10 @@ pub enum Target {
 }
 
 // `Next`, `Choose` and `Stop` are endings: each says which task comes at the next visit.
-#[derive(Clone, Copy, PartialEq, Eq, Debug)]
+#[derive(Clone, Copy, PartialEq, Eq, Default, Debug)]
 pub enum Statement {
+    // what fills a table where no statement stands
+    #[default]
     Stop,
     Set {
         target: Target,
@@ -126,16 +126,6 @@ pub enum Statement {
         then: Task,
         otherwise: Task,
     },
-}
-
-impl Filler for Statement {
-    ghost use Rattle.program.specs.declared.statement.Statement.{Statement};
-
-    ghost filler = { Statement.Stop };
-
-    fn filler() -> Statement {
-        Statement::Stop
-    }
 }
 
 // What comes at the next visit: a task, or nothing after a stop.

@@ -1,2 +1,2 @@
--- Lemmas of lists of words.
-pub mod Held
+-- Lemmas of short lists.
+pub mod Kept

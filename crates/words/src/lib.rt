@@ -1,5 +1,4 @@
 // Short lists with a fixed capacity, of words and of other items.
 #![tactic(auto)]
 
-pub mod filler;
 pub mod list;

@@ -1,38 +1,25 @@
-// Short lists: an array whose first items count, seen as the list of these.
-use crate::filler::Filler;
+// Short lists: an array, and how many of its items count.
+ghost use Rattle.std.specs.Prelude.{◌≡◌, ◌≤◌, length};
+
 use std::alloc::AllocError;
-use std::marker::Model;
 
 pub mod methods;
 
-// At most N items.
-#[derive(Copy, PartialEq, Eq, Debug)]
-pub struct Short<T: Filler, const N: usize> {
+// At most N items. It has no model: a value with a lifetime that holds one with a model can neither be copied nor taken
+// through `?` in code that is to be proved, and visits and machines are such values.
+#[derive(Copy)]
+pub struct Short<T, const N: usize> {
     items: [T; N],
     count: usize,
+    ghost full: { length items ≡ N },
+    ghost within: { count ≤ N },
 }
 
-// At most N words.
-pub type Words<const N: usize> = Short<u16, N>;
-
-// Clauses see the items that count. Past them stands the filler, so that the list tells the array.
-impl<T: Filler, const N: usize> Model for Short<T, N> {
-    ghost use Rattle.std.specs.Prelude.{List, length, take};
-    ghost use Rattle.words.specs.Lists.{Holds, length_held, padded, padded_held};
-
-    ghost Value = { List T };
-
-    ghost view = { λ s. take s.count s.items };
-
-    ghost invariant = { λ s. Holds T.filler N s.count s.items };
-
-    ghost inverse = { λ xs. record { items = padded T.filler N xs; count = length xs } };
-
-    ghost inverse_ok = { λ s h i. record { items = padded_held T.filler N s.count s.items h i; count = length_held T.filler N s.count s.items h i } };
-}
-
-impl<T: Filler, const N: usize> Clone for Short<T, N> {
+impl<T: Copy, const N: usize> Clone for Short<T, N> {
     fn clone(&self) -> Result<Self, AllocError> {
         Ok(*self)
     }
 }
+
+// At most N words.
+pub type Words<const N: usize> = Short<u16, N>;

@@ -1,7 +1,9 @@
 // A statement at work on a frame.
 ghost use Rattle.std.specs.Prelude.{◌≡◌, ◌+◌, ◌≤◌, [], length};
+ghost use Rattle.words.specs.Lists.{items};
 ghost use Rattle.program.specs.Shapes.{emits};
 ghost use Rattle.program.specs.Runs.{value, result_of, compares, holds, assign, after, passes};
+ghost use Rattle.plain.specs.Frames.{run_of};
 ghost use Rattle.plain.specs.Plain.{begun};
 
 use crate::frame::Frame;
@@ -35,7 +37,7 @@ fn compare(comparison: Comparison, left: u16, right: u16) -> bool
 impl Frame {
     // What a visit begins with: the locals 0, the record empty.
     pub(crate) fn new(row: &[u16; 8], variables: Words<48>) -> Frame
-        ensures { result ≡ begun row.now variables }
+        ensures { run_of result ≡ begun row.now (items variables) }
     {
         Frame {
             inputs: *row,
@@ -47,7 +49,7 @@ impl Frame {
     }
 
     pub(crate) fn value(&self, operand: Operand) -> u16
-        ensures { result ≡ value self.now operand }
+        ensures { result ≡ value (run_of self.now) operand }
     {
         match operand {
             Operand::Number(number) => number,
@@ -58,7 +60,7 @@ impl Frame {
     }
 
     fn holds(&self, test: Test) -> bool
-        ensures { result ≡ holds self.now test }
+        ensures { result ≡ holds (run_of self.now) test }
     {
         compare(
             test.comparison,
@@ -68,7 +70,7 @@ impl Frame {
     }
 
     fn assign(&mut self, target: Target, word: u16)
-        ensures { self.new ≡ assign target word self.old }
+        ensures { run_of self.new ≡ assign target word (run_of self.old) }
     {
         match target {
             Target::Variable(variable) => self.variables.set(variable.number() as usize, word),
@@ -78,7 +80,7 @@ impl Frame {
 
     // How many statements behind it are passed over.
     pub(crate) fn passes(&self, statement: Statement) -> u8
-        ensures { result ≡ passes statement self.now }
+        ensures { result ≡ passes statement (run_of self.now) }
     {
         match statement {
             Statement::Skip { reach, test } => { if self.holds(test) { reach.count() } else { 0 } }
@@ -88,8 +90,8 @@ impl Frame {
 
     // The statement's work, for which the record has room.
     pub(crate) fn work(&mut self, statement: Statement)
-        requires { length self.old.emitted + emits statement ≤ 8 }
-        ensures { self.new ≡ after statement self.old }
+        requires { length (items self.old.emitted) + emits statement ≤ 8 }
+        ensures { run_of self.new ≡ after statement (run_of self.old) }
     {
         match statement {
             Statement::Stop => self.chosen = Next::Stopped,

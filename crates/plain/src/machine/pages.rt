@@ -1,5 +1,6 @@
 // The machine's page and record.
 ghost use Rattle.std.specs.Prelude.{◌≡◌, ◌<◌, slice_index};
+ghost use Rattle.words.specs.Lists.{items};
 ghost use Rattle.plain.specs.Plain.{page, next_word};
 ghost use Rattle.plain.specs.Machines.{plain_of, Paged};
 
@@ -14,7 +15,7 @@ pub struct WrongLength;
 impl<'p> Machine<'p> {
     // The last visit's record.
     pub fn last_record(&self) -> Words<8>
-        ensures { result ≡ (plain_of self.now).emitted }
+        ensures { items result ≡ (plain_of self.now).emitted }
     {
         self.emitted
     }

@@ -1,8 +1,9 @@
 // The machine's visits.
 ghost use Rattle.std.specs.Prelude.{◌≡◌, ◌<◌};
 ghost use Rattle.program.specs.Programs.{program_source};
+ghost use Rattle.plain.specs.Frames.{run_of};
 ghost use Rattle.plain.specs.Plain.{last_number, first_next, at_first, left_by};
-ghost use Rattle.plain.specs.Machines.{plain_of, rules_of, Begun, Comes, Visited};
+ghost use Rattle.plain.specs.Machines.{plain_of, rules_of, Begun, Visited};
 
 use crate::frame::Frame;
 use crate::machine::Machine;
@@ -45,30 +46,22 @@ impl<'p> Machine<'p> {
         }
     }
 
-    // The task of the next visit, or why there is no visit.
-    fn next_task(&self) -> Result<Task, Refusal>
-        ensures { Comes (plain_of self.now) result }
-    {
-        match self.next {
-            Next::Stopped => Err(Refusal::Stopped),
-            Next::Task(_) if self.number == u32::MAX => Err(Refusal::LastNumber),
-            Next::Task(task) => Ok(task),
-        }
-    }
-
     // The next visit, before its first statement; the machine does not alter.
     pub fn begin(&self, row: &[u16; 8]) -> Result<Visit<'p>, Refusal>
         ensures { Begun (rules_of self.now) row.now (plain_of self.now) result }
     {
-        let task = self.next_task()?;
-        Ok(Visit::new(self.program, task, row, self.variables))
+        match self.next {
+            Next::Stopped => Err(Refusal::Stopped),
+            Next::Task(_) if self.number == u32::MAX => Err(Refusal::LastNumber),
+            Next::Task(task) => Ok(Visit::new(self.program, task, row, self.variables)),
+        }
     }
 
     // Takes up where a visit has ended.
     fn settle(&mut self, end: Frame)
         requires { self.old.number < last_number }
         ensures rules { self.new.program.now ≡ self.old.program.now }
-        ensures value { plain_of self.new ≡ left_by self.old.number end }
+        ensures value { plain_of self.new ≡ left_by self.old.number (run_of end) }
     {
         self.number += 1;
         self.next = end.chosen;
@@ -81,9 +74,8 @@ impl<'p> Machine<'p> {
         ensures rules { self.new.program.now ≡ self.old.program.now }
         ensures value { Visited (rules_of self.old) row.now (plain_of self.old) result (plain_of self.new) }
     {
-        let task = self.next_task()?;
-        let mut visit = Visit::new(self.program, task, row, self.variables);
-        self.settle(visit.finish());
+        let end = self.begin(row)?.finish();
+        self.settle(end);
         Ok(())
     }
 }

@@ -1,8 +1,10 @@
 // The statements of a visit, one after the other.
 ghost use Rattle.std.specs.Prelude.{◌≡◌};
 ghost use Rattle.program.specs.Runs.{value};
+ghost use Rattle.words.specs.Lists.{items};
 ghost use Rattle.program.specs.Sound.{task_of};
 ghost use Rattle.program.specs.Programs.{program_source};
+ghost use Rattle.plain.specs.Frames.{run_of};
 ghost use Rattle.plain.specs.Steps.{standing, starting, coming, stepped, ends};
 
 use crate::frame::Frame;
@@ -19,7 +21,7 @@ impl<'p> Visit<'p> {
         row: &[u16; 8],
         variables: Words<48>,
     ) -> Visit<'p>
-        ensures { standing result ≡ starting (task_of (program_source program.now) task.number) row.now variables }
+        ensures { standing result ≡ starting (task_of (program_source program.now) task.number) row.now (items variables) }
     {
         let frame = Frame::new(row, variables);
         Visit {
@@ -57,8 +59,8 @@ impl<'p> Visit<'p> {
     }
 
     // Does all that is left of the task.
-    pub(crate) fn finish(&mut self) -> Frame
-        ensures { result ≡ ends (standing self.old) }
+    pub(crate) fn finish(mut self) -> Frame
+        ensures { run_of result ≡ ends (standing self.entry) }
     {
         while self.step().is_some() {}
         self.frame

@@ -1,6 +1,7 @@
 // What a draft holds, for the program made of it.
 ghost use Rattle.std.specs.Prelude.{◌≡◌, ◌<◌, ◌≤◌, length};
 ghost use Rattle.std.specs.List.{slice_get};
+ghost use Rattle.words.specs.Lists.{items};
 ghost use Rattle.program.specs.Sound.{task_of, sound_at, total};
 ghost use Rattle.program.specs.Drafts.{source_of, last_task};
 
@@ -35,7 +36,7 @@ impl Draft {
 
     // The variables' first values.
     pub(crate) fn firsts(&self) -> Words<48>
-        ensures { result ≡ (source_of self.now).firsts }
+        ensures { items result ≡ (source_of self.now).firsts }
     {
         self.firsts
     }

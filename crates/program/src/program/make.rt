@@ -1,6 +1,7 @@
 // How a program is made of a draft, and what it holds.
 ghost use Rattle.std.specs.Prelude.{◌≡◌, length};
 ghost use Rattle.std.specs.List.{slice_get};
+ghost use Rattle.words.specs.Lists.{items};
 ghost use Rattle.program.specs.Drafts.{source_of};
 ghost use Rattle.program.specs.Sound.{task_of};
 ghost use Rattle.program.specs.Programs.{program_source, Made};
@@ -32,7 +33,7 @@ impl Program {
 
     // The variables' first values.
     pub fn firsts(&self) -> Words<48>
-        ensures { result ≡ (program_source self.now).firsts }
+        ensures { items result ≡ (program_source self.now).firsts }
     {
         self.draft.firsts()
     }

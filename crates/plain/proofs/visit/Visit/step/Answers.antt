@@ -6,6 +6,7 @@ use Rattle.program.specs.Sound.{task_of}
 use Rattle.program.specs.Programs.{program_source}
 use Rattle.program.proofs.Programs.{task_short}
 use Rattle.plain.specs.declared.visit.Visit.{Visit}
+use Rattle.plain.specs.Frames.{run_of}
 use Rattle.plain.proofs.Steps.{nth_some, room_here, room_on}
 use Rattle.plain.proofs.visit.Visit.step.Goals as goal
 
@@ -29,5 +30,5 @@ pub invariant_of-self : goal.invariant_of-self
 invariant_of-self c =
     let v = c.args.self.now in
     let s = c.in_ok-statement.statement in
-    let on : v.at + (1 + c.passes-over.result) ≡ v.at + 1 + passes s v.frame = omega (arith, c.passes-over.ensures) in
+    let on : v.at + (1 + c.passes-over.result) ≡ v.at + 1 + passes s (run_of v.frame) = omega (arith, c.passes-over.ensures) in
     record { room = room_on (task_in v) v.at v.frame s (sym c.in_ok-statement.ensures) v.room c.work.new.self _ c.work.ensures on }

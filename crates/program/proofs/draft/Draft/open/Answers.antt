@@ -1,7 +1,8 @@
 -- `Draft::open`: what the search leaves to show.
-use Rattle.std.proofs.Common.{ℕ, [], ◌∷◌, ◌++◌, ◌≡◌, length, map, sym, ap, subst, List, ◌∙◌, arith, length-append}
+use Rattle.std.proofs.Common.{ℕ, [], ◌∷◌, ◌++◌, ◌≡◌, length, map, sym, ap, subst, List, ◌∙◌, arith}
 use Rattle.std.proofs.lemmas.List.{map_push}
-use Rattle.words.proofs.Held.{pushed_room}
+use Rattle.words.proofs.Kept.{pushed_room}
+use Rattle.words.specs.Lists.{items}
 use Rattle.program.specs.declared.span.Span.{Span}
 use Rattle.program.specs.Spans.{LieBehind, part}
 use Rattle.program.specs.Drafts.{source_of}
@@ -13,27 +14,24 @@ abbrev empty_at : ℕ → Span
 empty_at n = record { first = n; size = 0 }
 
 -- one span more, behind the statements
-one_more : (c : goal.After-push) → c.push.new.self ≡ c.args.self.now.spans ++ empty_at (length c.args.self.now.statements) ∷ []
+one_more : (c : goal.After-push) → items c.push.new.self ≡ items c.args.self.now.spans ++ empty_at (length (items c.args.self.now.statements)) ∷ []
 one_more c =
     let d = c.args.self.now in
     let many = tasks_count d in
     c.push.ensures.after
-    ∙ pushed_room 16 d.spans _ (omega (arith, c.requires))
-    ∙ ap (λ n. d.spans ++ empty_at n ∷ []) (c.total-first.ensures ∙ total_count d)
+    ∙ pushed_room 16 (items d.spans) _ (omega (arith, c.requires))
+    ∙ ap (λ n. (items d.spans) ++ empty_at n ∷ []) (c.total-first.ensures ∙ total_count d)
 
 pub invariant_of-self : goal.invariant_of-self
 invariant_of-self c =
     let d = c.args.self.now in
-    let many = tasks_count d in
-    let few = d.few in
-    let longer = length-append d.spans (empty_at (length d.statements) ∷ []) in
     record {
-      few = omega (arith, c.requires, ap length (one_more c));
-      laid = subst (λ (xs : List Span). LieBehind 0 xs (length d.statements)) (sym (one_more c)) (opened 0 (length d.statements) d.spans d.laid);
+      few = d.few;
+      laid = subst (λ (xs : List Span). LieBehind 0 xs (length (items d.statements))) (sym (one_more c)) (opened 0 (length (items d.statements)) (items d.spans) d.laid);
     }
 
 pub returns : goal.returns
 returns c =
     let d = c.args.self.now in
-    ap (λ xs. with_tasks (source_of d) (map (part d.statements) xs)) (one_more c.before)
-    ∙ ap (with_tasks (source_of d)) (map_push (part d.statements) d.spans (empty_at (length d.statements)))
+    ap (λ xs. with_tasks (source_of d) (map (part (items d.statements)) xs)) (one_more c.before)
+    ∙ ap (with_tasks (source_of d)) (map_push (part (items d.statements)) (items d.spans) (empty_at (length (items d.statements))))
