@@ -1,5 +1,6 @@
 -- The definitions of statements, runs, paths and programs.
 pub mod Shapes
+pub mod Signs
 pub mod Runs
 pub mod Paths
 pub mod Sound

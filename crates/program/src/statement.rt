@@ -1,6 +1,8 @@
 // The statements of a task, and what they name.
 ghost use Rattle.std.specs.Prelude.{◌≡◌, ◌<◌, ◌≤◌, MatchOption};
 
+use std::fmt;
+
 // One of at most N things of a kind, by its number in the order of their declarations.
 #[derive(Clone, Copy, PartialEq, Eq, Debug)]
 pub struct Index<const N: u8> {
@@ -133,4 +135,37 @@ pub enum Statement {
 pub enum Next {
     Task(Task),
     Stopped,
+}
+
+impl fmt::Display for Operator {
+    ghost use Rattle.program.specs.Signs.{operator_sign};
+    ghost use Rattle.std.specs.Prelude.{Some};
+
+    ghost output = { λ o. Some (operator_sign o) };
+
+    fn fmt<W: fmt::Write>(&self, f: &mut fmt::Formatter<W>) -> fmt::Result {
+        f.write_str(match self {
+            Operator::Plus => "+",
+            Operator::Minus => "-",
+            Operator::And => "&",
+            Operator::Or => "|",
+            Operator::Xor => "^",
+            Operator::Quotient => "/",
+            Operator::Remainder => "%",
+        })
+    }
+}
+
+impl fmt::Display for Comparison {
+    ghost use Rattle.program.specs.Signs.{comparison_sign};
+    ghost use Rattle.std.specs.Prelude.{Some};
+
+    ghost output = { λ o. Some (comparison_sign o) };
+
+    fn fmt<W: fmt::Write>(&self, f: &mut fmt::Formatter<W>) -> fmt::Result {
+        f.write_str(match self {
+            Comparison::Equal => "=",
+            Comparison::Less => "<",
+        })
+    }
 }
