@@ -1,135 +1,147 @@
-// Statements in words, with the values that they read and write. The names are those of the rule of due dates.
+// Statements in words, with the values that they read and write.
 use plain::visit::Visit;
-use program::statement::{
-    Comparison, Local, Operand, Operator, Statement, Target, Task, Test, Variable,
-};
-use std::alloc::{AllocError, Global};
+use program::statement::{Index, Operand, Statement, Target, Task, Test};
+use std::fmt;
 
-fn variable_name(variable: Variable) -> &'static str {
-    match variable.number() {
-        0 => "due",
-        1 => "n",
-        _ => "?",
-    }
+// The names of the rule of due dates, in the order of their declarations.
+const VARIABLES: [&str; 2] = ["due", "n"];
+
+const LOCALS: [&str; 1] = ["t"];
+
+const TASKS: [&str; 1] = ["a"];
+
+fn name<const N: u8>(index: Index<N>, names: &[&'static str]) -> &'static str {
+    names.get(index.number() as usize).copied().unwrap_or("?")
 }
 
-fn local_name(local: Local) -> &'static str {
-    match local.number() {
-        0 => "t",
-        _ => "?",
-    }
-}
+// What a program is made of, by the names of the rule of due dates.
+#[derive(Clone, Copy)]
+struct Named<T>(T);
 
-fn task_name(task: Task) -> &'static str {
-    match task.number() {
-        0 => "a",
-        _ => "?",
-    }
-}
-
-fn operand_text(heap: Global, operand: Operand) -> Result<String, AllocError> {
-    match operand {
-        Operand::Number(number) => format!(in heap; "{number}"),
-        Operand::Variable(variable) => String::from_str(heap, variable_name(variable)),
-        Operand::Local(local) => String::from_str(heap, local_name(local)),
-        Operand::Input(input) => {
-            let place = input.number();
-            format!(in heap; "in{place}")
+impl fmt::Display for Named<Operand> {
+    fn fmt<W: fmt::Write>(&self, f: &mut fmt::Formatter<W>) -> fmt::Result {
+        match self.0 {
+            Operand::Number(number) => write!(f, "{number}"),
+            Operand::Variable(variable) => f.write_str(name(variable, &VARIABLES)),
+            Operand::Local(local) => f.write_str(name(local, &LOCALS)),
+            Operand::Input(input) => write!(f, "in{}", input.number()),
         }
     }
 }
 
-fn sign(operator: Operator) -> &'static str {
-    match operator {
-        Operator::Plus => "+",
-        Operator::Minus => "-",
-        Operator::And => "&",
-        Operator::Or => "|",
-        Operator::Xor => "^",
-        Operator::Quotient => "/",
-        Operator::Remainder => "%",
+impl fmt::Display for Named<Target> {
+    fn fmt<W: fmt::Write>(&self, f: &mut fmt::Formatter<W>) -> fmt::Result {
+        write!(f, "{}", Named(reader(self.0)))
     }
 }
 
-fn test_text(heap: Global, test: Test) -> Result<String, AllocError> {
-    let left = operand_text(heap, test.left)?;
-    let right = operand_text(heap, test.right)?;
-    let sign = match test.comparison {
-        Comparison::Equal => "=",
-        Comparison::Less => "<",
-    };
-    format!(in heap; "{left} {sign} {right}")
-}
-
-// The target's name, and the operand that reads it.
-fn target_parts(target: Target) -> (&'static str, Operand) {
-    match target {
-        Target::Variable(variable) => (variable_name(variable), Operand::Variable(variable)),
-        Target::Local(local) => (local_name(local), Operand::Local(local)),
+impl fmt::Display for Named<Task> {
+    fn fmt<W: fmt::Write>(&self, f: &mut fmt::Formatter<W>) -> fmt::Result {
+        f.write_str(name(self.0, &TASKS))
     }
 }
 
-// The statement that comes, with what it reads and writes.
-pub(crate) fn statement(
-    heap: Global,
-    statement: Statement,
-    visit: &Visit<'_>,
-) -> Result<String, AllocError> {
-    match statement {
-        Statement::Stop => format!(in heap; "stop: no visit follows"),
-        Statement::Set {
-            target,
+impl fmt::Display for Named<Test> {
+    fn fmt<W: fmt::Write>(&self, f: &mut fmt::Formatter<W>) -> fmt::Result {
+        let Test {
             left,
-            operator,
+            comparison,
             right,
-        } => set_text(heap, target, left, operator, right, visit),
-        Statement::Emit(operand) => {
-            let name = operand_text(heap, operand)?;
-            let word = visit.value(operand);
-            format!(in heap; "emit {name}: reads {word}, adds {word} to the record")
-        }
-        Statement::Skip { reach, test } => {
-            let over = reach.count();
-            let text = test_text(heap, test)?;
-            let left = visit.value(test.left);
-            let right = visit.value(test.right);
-            format!(in heap; "skip {over} {text}: reads {left} and {right}")
-        }
-        Statement::Next(task) => {
-            let name = task_name(task);
-            format!(in heap; "next {name}: task {name} comes at the next visit")
-        }
-        Statement::Choose {
-            test,
-            then,
-            otherwise,
-        } => {
-            let text = test_text(heap, test)?;
-            let (yes, no) = (task_name(then), task_name(otherwise));
-            let left = visit.value(test.left);
-            let right = visit.value(test.right);
-            format!(in heap; "next {yes} {text} {no}: reads {left} and {right}")
+        } = self.0;
+        write!(f, "{} {comparison} {}", Named(left), Named(right))
+    }
+}
+
+impl fmt::Display for Named<Statement> {
+    fn fmt<W: fmt::Write>(&self, f: &mut fmt::Formatter<W>) -> fmt::Result {
+        match self.0 {
+            Statement::Stop => f.write_str("stop"),
+            Statement::Set {
+                target,
+                left,
+                operator,
+                right,
+            } => write!(
+                f,
+                "set {} {} {operator} {}",
+                Named(target),
+                Named(left),
+                Named(right)
+            ),
+            Statement::Emit(operand) => write!(f, "emit {}", Named(operand)),
+            Statement::Skip { reach, test } => write!(f, "skip {} {}", reach.count(), Named(test)),
+            Statement::Next(task) => write!(f, "next {}", Named(task)),
+            Statement::Choose {
+                test,
+                then,
+                otherwise,
+            } => write!(
+                f,
+                "next {} {} {}",
+                Named(then),
+                Named(test),
+                Named(otherwise)
+            ),
         }
     }
 }
 
-// A set is told by the visit one statement on, where its target has the new word.
-fn set_text(
-    heap: Global,
-    target: Target,
-    left: Operand,
-    operator: Operator,
-    right: Operand,
-    visit: &Visit<'_>,
-) -> Result<String, AllocError> {
-    let (name, place) = target_parts(target);
-    let (one, other) = (operand_text(heap, left)?, operand_text(heap, right)?);
-    let sign = sign(operator);
-    let (read, also) = (visit.value(left), visit.value(right));
-    let mut after = *visit;
-    after.step();
-    let word = after.value(place);
-    format!(in heap;
-        "set {name} {one} {sign} {other}: reads {read} and {also}, writes {word} to {name}"
-    )
+// The operand that reads what a set alters.
+fn reader(target: Target) -> Operand {
+    match target {
+        Target::Variable(variable) => Operand::Variable(variable),
+        Target::Local(local) => Operand::Local(local),
+    }
+}
+
+// The statement that comes at a visit, with what it reads and writes.
+#[derive(Clone, Copy)]
+pub(crate) struct Told<'a, 'p> {
+    pub(crate) statement: Statement,
+    pub(crate) visit: &'a Visit<'p>,
+}
+
+impl fmt::Display for Told<'_, '_> {
+    fn fmt<W: fmt::Write>(&self, f: &mut fmt::Formatter<W>) -> fmt::Result {
+        let visit = self.visit;
+        write!(f, "{}: ", Named(self.statement))?;
+        match self.statement {
+            Statement::Stop => f.write_str("no visit follows"),
+            Statement::Set {
+                target,
+                left,
+                right,
+                ..
+            } => {
+                // The visit one statement on, where the target has the new word.
+                let mut after = *visit;
+                after.step();
+                write!(
+                    f,
+                    "reads {} and {}, ",
+                    visit.value(left),
+                    visit.value(right)
+                )?;
+                write!(
+                    f,
+                    "writes {} to {}",
+                    after.value(reader(target)),
+                    Named(target)
+                )
+            }
+            Statement::Emit(operand) => {
+                let word = visit.value(operand);
+                write!(f, "reads {word}, adds {word} to the record")
+            }
+            Statement::Skip { test, .. } | Statement::Choose { test, .. } => {
+                write!(
+                    f,
+                    "reads {} and {}",
+                    visit.value(test.left),
+                    visit.value(test.right)
+                )
+            }
+            Statement::Next(task) => write!(f, "task {} comes at the next visit", Named(task)),
+        }
+    }
 }
