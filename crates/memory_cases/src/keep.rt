@@ -13,16 +13,14 @@ pub fn through_a_cut(word: u16) -> Stood
     ensures cut { result.cut ≡ Some (record { place = 1; layers = 1 }) }
 {
     let mut bytes = [0u8; 6];
+    // No `unwrap` here: it would take a value whose two variants both hold the buffer, which the borrow checker does not cover.
     let Ok(image) = Image::new(Bytes(&mut bytes), 1, 7) else {
         unreachable!()
     };
     let Ok(mut cells) = ThreeCell::new(image) else {
         unreachable!()
     };
-    match write_through(&mut cells, 0, word, 2, 0) {
-        Ok(stood) => stood,
-        Err(_) => unreachable!(),
-    }
+    write_through(&mut cells, 0, word, 2, 0).unwrap()
 }
 
 #[cfg(test)]

@@ -7,6 +7,8 @@ mod layers;
 #[cfg(test)]
 mod lowest_cuts;
 #[cfg(test)]
+mod make;
+#[cfg(test)]
 mod makers;
 #[cfg(test)]
 mod single;
