@@ -4,26 +4,22 @@ ghost use Rattle.std.specs.Prelude.{◌<◌, ◌≤◌};
 use program::draft::Draft;
 use program::draft::build::Flaw;
 use program::program::Program;
-use program::statement::{Index, Operand, Operator, Reach, Statement, Target};
+use program::statement::{
+    Comparison, Index, Operand, Operator, Reach, Statement, Target, Test, Variable,
+};
 
 // The thing with a number that its kind has.
 pub(crate) fn index<const N: u8>(number: u8) -> Index<N>
     requires { number < N }
 {
-    match Index::new(number) {
-        Some(index) => index,
-        None => unreachable(),
-    }
+    Index::new(number).unwrap()
 }
 
 // A reach that a skip may have.
 pub(crate) fn reach(count: u8) -> Reach
     requires { (0 < count) × (count ≤ 15) }
 {
-    match Reach::new(count) {
-        Some(reach) => reach,
-        None => unreachable(),
-    }
+    Reach::new(count).unwrap()
 }
 
 // set TARGET LEFT + RIGHT
@@ -36,20 +32,22 @@ pub(crate) fn set_sum(target: Target, left: Operand, right: Operand) -> Statemen
     }
 }
 
-// One variable more for each first value.
-fn add_variables(draft: &mut Draft, firsts: &[u16]) -> Result<(), Flaw> {
-    for first in firsts {
-        draft.variable(*first)?;
-    }
-    Ok(())
+// set VARIABLE VARIABLE + 1
+pub(crate) fn increment(variable: Variable) -> Statement {
+    set_sum(
+        Target::Variable(variable),
+        Operand::Variable(variable),
+        Operand::Number(1),
+    )
 }
 
-// So many locals more.
-fn add_locals(draft: &mut Draft, count: u8) -> Result<(), Flaw> {
-    for _ in 0..count {
-        draft.local()?;
+// LEFT = RIGHT
+pub(crate) fn equal(left: Operand, right: Operand) -> Test {
+    Test {
+        left,
+        comparison: Comparison::Equal,
+        right,
     }
-    Ok(())
 }
 
 // One task more, with its statements.
@@ -64,8 +62,12 @@ pub(crate) fn add_task(draft: &mut Draft, statements: &[Statement]) -> Result<()
 // A draft of variables with these first values, and so many locals.
 pub(crate) fn declared(firsts: &[u16], locals: u8) -> Result<Draft, Flaw> {
     let mut draft = Draft::new();
-    add_variables(&mut draft, firsts)?;
-    add_locals(&mut draft, locals)?;
+    for first in firsts {
+        draft.variable(*first)?;
+    }
+    for _ in 0..locals {
+        draft.local()?;
+    }
     Ok(draft)
 }
 
@@ -88,11 +90,7 @@ pub(crate) fn due_date() -> Result<Program, Flaw> {
     let statements = [
         set_sum(Target::Local(t), day, Operand::Number(14)),
         set_sum(Target::Variable(due), Operand::Local(t), Operand::Number(0)),
-        set_sum(
-            Target::Variable(n),
-            Operand::Variable(n),
-            Operand::Number(1),
-        ),
+        increment(n),
         Statement::Emit(Operand::Variable(due)),
         Statement::Next(index(0)),
     ];

@@ -7,33 +7,12 @@ use program::statement::{Comparison, Operand, Statement, Target, Test};
 use std::process::Abort;
 use std::test::Fail;
 
-// Whether a comparison is to hold.
-#[derive(Clone, Copy)]
-struct Case {
-    left: u16,
-    comparison: Comparison,
-    right: u16,
-    holds: bool,
-}
-
-macro_rules! comparison {
-    (=) => { Comparison::Equal };
-    (<) => { Comparison::Less };
-}
-
-// A table of cases, as `3 < 5: true;`.
-macro_rules! cases {
-    ($($left:literal $sign:tt $right:literal: $holds:literal;)*) => {
-        [$(Case { left: $left, comparison: comparison!($sign), right: $right, holds: $holds }),*]
-    };
-}
-
 // var a LEFT, var b RIGHT, var z 0, task 0: skip 1 a COMPARISON b, set z 0 + 1, next 1 a COMPARISON b 2;
 // tasks 1 and 2: stop.
-fn comparing(case: &Case) -> Result<Program, Flaw> {
+fn comparing(left: u16, comparison: Comparison, right: u16) -> Result<Program, Flaw> {
     let test = Test {
         left: Operand::Variable(index(0)),
-        comparison: case.comparison,
+        comparison,
         right: Operand::Variable(index(1)),
     };
     let skip = Statement::Skip {
@@ -47,21 +26,29 @@ fn comparing(case: &Case) -> Result<Program, Flaw> {
         then: index(1),
         otherwise: index(2),
     };
-    let mut draft = declared(&[case.left, case.right, 0], 0)?;
+    let mut draft = declared(&[left, right, 0], 0)?;
     add_task(&mut draft, &[skip, set, choose])?;
     add_task(&mut draft, &[Statement::Stop])?;
     add_task(&mut draft, &[Statement::Stop])?;
     Program::new(draft)
 }
 
-// Where the comparison holds, the set is skipped and task 1 comes next; else it is done and task 2 comes.
-fn check_cases(rt: &impl Abort, cases: &[Case]) -> Result<(), Fail> {
-    for case in cases {
-        let program = comparing(case)?;
+// The comparison of each left word with the right word holds or not. Where it holds, the set is skipped and task 1 comes
+// next; else it is done and task 2 comes.
+fn check_holds(
+    rt: &impl Abort,
+    comparison: Comparison,
+    cases: &[(u16, u16, bool)],
+) -> Result<(), Fail> {
+    for &(left, right, holds) in cases {
+        let program = comparing(left, comparison, right)?;
         let words = visited::<15>(&program, &[0; 8])?;
-        let (next, z) = if case.holds { (1, 0) } else { (2, 1) };
-        let (left, right) = (case.left, case.right);
-        assert_eq!(rt; (words[2], words[14]), (next, z), "{left} and {right}");
+        let (next, z) = if holds { (1, 0) } else { (2, 1) };
+        assert_eq!(rt;
+            (words[2], words[14]),
+            (next, z),
+            "{left} {comparison} {right}"
+        );
     }
     Ok(())
 }
@@ -69,31 +56,31 @@ fn check_cases(rt: &impl Abort, cases: &[Case]) -> Result<(), Fail> {
 // `=` holds of equal words alone.
 #[test]
 fn equal(rt: HostRuntime) -> Result<(), Fail> {
-    let cases = cases![
-        0 = 0: true;
-        65535 = 65535: true;
-        7 = 7: true;
-        0 = 65535: false;
-        65535 = 0: false;
-        6 = 7: false;
-        7 = 6: false;
+    let cases = [
+        (0, 0, true),
+        (65535, 65535, true),
+        (7, 7, true),
+        (0, 65535, false),
+        (65535, 0, false),
+        (6, 7, false),
+        (7, 6, false),
     ];
-    check_cases(&rt, &cases)
+    check_holds(&rt, Comparison::Equal, &cases)
 }
 
 // `<` holds where the left word is less.
 #[test]
 fn less(rt: HostRuntime) -> Result<(), Fail> {
-    let cases = cases![
-        0 < 1: true;
-        0 < 65535: true;
-        65534 < 65535: true;
-        6 < 7: true;
-        0 < 0: false;
-        65535 < 65535: false;
-        7 < 7: false;
-        7 < 6: false;
-        65535 < 0: false;
+    let cases = [
+        (0, 1, true),
+        (0, 65535, true),
+        (65534, 65535, true),
+        (6, 7, true),
+        (0, 0, false),
+        (65535, 65535, false),
+        (7, 7, false),
+        (7, 6, false),
+        (65535, 0, false),
     ];
-    check_cases(&rt, &cases)
+    check_holds(&rt, Comparison::Less, &cases)
 }

@@ -1,5 +1,5 @@
 // How much a draft takes, and that a refused call leaves it as it was.
-use crate::build::{add_task, declared, index, set_sum};
+use crate::build::{add_task, declared, increment, index, set_sum};
 use crate::read::visited;
 use program::draft::Draft;
 use program::draft::build::Flaw;
@@ -15,14 +15,9 @@ fn outcome<const N: usize>(draft: Draft) -> Result<[u16; N], Fail> {
 // One task more of 64 statements: 63 times set z z + 1, where z is the first variable, and stop.
 fn add_long_task(draft: &mut Draft) -> Result<(), Flaw> {
     let z = index(0);
-    let count = set_sum(
-        Target::Variable(z),
-        Operand::Variable(z),
-        Operand::Number(1),
-    );
     draft.task()?;
     for _ in 0..63 {
-        draft.statement(count)?;
+        draft.statement(increment(z))?;
     }
     draft.statement(Statement::Stop)
 }

@@ -1,5 +1,6 @@
 // Numbers at their limits, and lists of words past their ends.
 use program::statement::{Input, Local, Reach, Task, Variable};
+use std::array;
 use std::test::Fail;
 use words::list::Words;
 use words::list::methods::Full;
@@ -47,13 +48,7 @@ fn reaches(rt: HostRuntime) {
 
 // The words at the first five places.
 fn places(words: &Words<4>) -> [u16; 5] {
-    [
-        words.get(0),
-        words.get(1),
-        words.get(2),
-        words.get(3),
-        words.get(4),
-    ]
+    array::from_fn(|place| words.get(place))
 }
 
 // Past the last word a list has 0, and a set alters nothing.

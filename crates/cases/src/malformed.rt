@@ -1,8 +1,8 @@
 // Tasks that are not well formed, each beside its nearest neighbour that is.
-use crate::build::{add_task, declared, index, reach, set_sum};
+use crate::build::{add_task, declared, equal, index, reach, set_sum};
 use program::draft::build::Flaw;
 use program::program::Program;
-use program::statement::{Comparison, Operand, Reach, Statement, Target, Task, Test};
+use program::statement::{Operand, Reach, Statement, Target, Task};
 use std::process::Abort;
 
 const ZERO: Operand = Operand::Number(0);
@@ -12,15 +12,6 @@ const STOP: Statement = Statement::Stop;
 // set TARGET 0 + 0
 fn clear(target: Target) -> Statement {
     set_sum(target, ZERO, ZERO)
-}
-
-// LEFT = RIGHT
-fn equal(left: Operand, right: Operand) -> Test {
-    Test {
-        left,
-        comparison: Comparison::Equal,
-        right,
-    }
 }
 
 // skip REACH 0 = 0
@@ -63,30 +54,20 @@ fn readers(operand: Operand) -> [[Statement; 3]; 7] {
     let (left, right) = (equal(operand, ZERO), equal(ZERO, operand));
     let reach = reach(1);
     let (then, otherwise) = (index(0), index(1));
+    let skip = |test| Statement::Skip { reach, test };
+    let choose = |test| Statement::Choose {
+        test,
+        then,
+        otherwise,
+    };
     [
         [set_sum(target, operand, ZERO), set, STOP],
         [set_sum(target, ZERO, operand), set, STOP],
         [Statement::Emit(operand), set, STOP],
-        [Statement::Skip { reach, test: left }, set, STOP],
-        [Statement::Skip { reach, test: right }, set, STOP],
-        [
-            set,
-            set,
-            Statement::Choose {
-                test: left,
-                then,
-                otherwise,
-            },
-        ],
-        [
-            set,
-            set,
-            Statement::Choose {
-                test: right,
-                then,
-                otherwise,
-            },
-        ],
+        [skip(left), set, STOP],
+        [skip(right), set, STOP],
+        [set, set, choose(left)],
+        [set, set, choose(right)],
     ]
 }
 

@@ -2,18 +2,22 @@
 use crate::build::due_date;
 use plain::machine::Machine;
 use plain::machine::pages::WrongLength;
+use std::process::Abort;
 use std::test::Fail;
 
-// A buffer that is one word too short or too long is refused, and stays as it was.
+// A buffer of another length is refused, and stays as it was.
+fn check_refused<const N: usize>(rt: &impl Abort, machine: &Machine<'_>, before: [u16; N]) {
+    let mut words = before;
+    assert_eq!(rt; machine.page(&mut words), Err(WrongLength));
+    assert_eq!(rt; words, before);
+}
+
+// The page of the rule of due dates fits no buffer that is one word too short or too long.
 #[test]
 fn other_lengths(rt: HostRuntime) -> Result<(), Fail> {
     let program = due_date()?;
     let machine = Machine::new(&program);
-    let mut short = [7; 13];
-    assert_eq!(rt; machine.page(&mut short), Err(WrongLength));
-    assert_eq!(rt; short, [7; 13]);
-    let mut long = [7; 15];
-    assert_eq!(rt; machine.page(&mut long), Err(WrongLength));
-    assert_eq!(rt; long, [7; 15]);
+    check_refused(&rt, &machine, [7; 13]);
+    check_refused(&rt, &machine, [7; 15]);
     Ok(())
 }

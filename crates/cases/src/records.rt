@@ -1,19 +1,15 @@
 // How many words a record may take.
-use crate::build::{index, reach};
+use crate::build::{equal, index, reach};
 use crate::read::visited;
 use program::draft::Draft;
 use program::draft::build::Flaw;
 use program::program::Program;
-use program::statement::{Comparison, Operand, Statement, Test};
+use program::statement::{Operand, Statement};
 use std::test::Fail;
 
 // task: skip 1 in0 = 0, then emit 1, emit 2 and so on up to the last, stop.
 fn emitting(last: u16) -> Result<Program, Flaw> {
-    let test = Test {
-        left: Operand::Input(index(0)),
-        comparison: Comparison::Equal,
-        right: Operand::Number(0),
-    };
+    let test = equal(Operand::Input(index(0)), Operand::Number(0));
     let mut draft = Draft::new();
     draft.task()?;
     draft.statement(Statement::Skip {
