@@ -2,7 +2,6 @@
 #![tactic(auto)]
 
 use crate::tell::Told;
-use anyhow::anyhow;
 use plain::machine::Machine;
 use plain::visit::Visit;
 use std::{fmt, io};
@@ -43,7 +42,7 @@ fn trace(rt: &impl Print, mut visit: Visit<'_>) -> io::Result<()> {
 }
 
 fn run(rt: &impl Print) -> anyhow::Result<()> {
-    let program = rule::due_date().map_err(|_| anyhow!("the rule is no program"))?;
+    let program = rule::due_date()?;
     println!(rt; "The rule of due dates: a loan is due 14 days after the day of the visit.")?;
     println!(rt; "Variables due = 0 and n = 5, local t, task a.")?;
     let mut machine = Machine::new(&program);
@@ -51,13 +50,8 @@ fn run(rt: &impl Print) -> anyhow::Result<()> {
         "Visit 0 with row {} on the plain machine, task a:",
         Spaced(&ROW)
     )?;
-    let visit = machine
-        .begin(&ROW)
-        .map_err(|_| anyhow!("no visit can begin"))?;
-    trace(rt, visit)?;
-    machine
-        .visit(&ROW)
-        .map_err(|_| anyhow!("the visit was refused"))?;
+    trace(rt, machine.begin(&ROW)?)?;
+    machine.visit(&ROW)?;
     show(rt, &machine)
 }
 
@@ -65,9 +59,7 @@ fn run(rt: &impl Print) -> anyhow::Result<()> {
 fn show(rt: &impl Print, machine: &Machine<'_>) -> anyhow::Result<()> {
     println!(rt; "Record: {}", Spaced(machine.last_record().as_slice()))?;
     let mut page = [0; 14];
-    machine
-        .page(&mut page)
-        .map_err(|_| anyhow!("the page has another length"))?;
+    machine.page(&mut page)?;
     println!(rt; "Page: {}", Spaced(&page))?;
     println!(rt;
         "  that is the visit number low and high, the next task, the record's length and eight words, due, n"

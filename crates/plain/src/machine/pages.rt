@@ -6,10 +6,11 @@ ghost use Rattle.plain.specs.Machines.{plain_of, Paged};
 
 use crate::machine::Machine;
 use program::statement::Next;
+use thiserror::Error;
 use words::list::Words;
 
-// The buffer has not as many words as the page.
-#[derive(Clone, Copy, PartialEq, Eq, Debug)]
+#[derive(Clone, Copy, PartialEq, Eq, Debug, Error)]
+#[error("the buffer has not as many words as the page")]
 pub struct WrongLength;
 
 impl<'p> Machine<'p> {

@@ -10,14 +10,15 @@ use crate::machine::Machine;
 use crate::visit::Visit;
 use program::program::Program;
 use program::statement::{Next, Task};
+use thiserror::Error;
 use words::list::Words;
 
 // Why there is no visit.
-#[derive(Clone, Copy, PartialEq, Eq, Debug)]
+#[derive(Clone, Copy, PartialEq, Eq, Debug, Error)]
 pub enum Refusal {
-    // an ending stopped the program
+    #[error("an ending stopped the program")]
     Stopped,
-    // the visit number is 4,294,967,295
+    #[error("the visit number is 4,294,967,295")]
     LastNumber,
 }
 

@@ -6,22 +6,23 @@ ghost use Rattle.program.specs.Drafts.{source_of, blank, with_task, with_stateme
 use crate::draft::Draft;
 use crate::span::Span;
 use crate::statement::{Local, Statement, Task, Variable};
+use thiserror::Error;
 use words::list::{Short, Words};
 
 // Why a draft takes nothing more, or is no program.
-#[derive(Clone, Copy, PartialEq, Eq, Debug)]
+#[derive(Clone, Copy, PartialEq, Eq, Debug, Error)]
 pub enum Flaw {
-    // a 49th variable
+    #[error("a 49th variable")]
     Variables,
-    // a 9th local
+    #[error("a 9th local")]
     Locals,
-    // a 17th task
+    #[error("a 17th task")]
     Tasks,
-    // a 65th statement of a task, or a 257th in all
+    #[error("a 65th statement of a task, or a 257th in all")]
     Statements,
-    // a statement, or the end, before any task
+    #[error("a statement, or the end, before any task")]
     NoTask,
-    // this task is not well formed
+    #[error("task {} is not well formed", .0.number())]
     Malformed(Task),
 }
 

@@ -3,9 +3,10 @@ ghost use Rattle.std.specs.Prelude.{◌≡◌, ◌≤◌, [], length, is_ok, nat
 ghost use Rattle.words.specs.Lists.{items, pushed};
 
 use crate::list::{Short, Words};
+use thiserror::Error;
 
-// The list holds as many items as it can.
-#[derive(Clone, Copy, PartialEq, Eq, Debug)]
+#[derive(Clone, Copy, PartialEq, Eq, Debug, Error)]
+#[error("the list holds as many items as it can")]
 pub struct Full;
 
 impl<T: Copy + Default, const N: usize> Short<T, N> {
