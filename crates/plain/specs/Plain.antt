@@ -2,7 +2,7 @@
 use Rattle.std.specs.Prelude.{ℕ, zero, suc, ◌+◌, ◌/◌, ◌%◌, List, [], ◌∷◌, ◌++◌, length, take, replicate}
 use Rattle.std.proofs.Common.{lit<}
 use Rattle.program.specs.declared.statement.Next.{Next}
-use Rattle.program.specs.Runs.{Run, exec}
+use Rattle.program.specs.Runs.{Run, exec, next_word}
 use Rattle.program.specs.Sound.{Source, task_of}
 
 -- the visit number, what comes next, the last visit's record, and the variables
@@ -43,11 +43,6 @@ after_visit p row m = elim m.next [
 abbrev pub visits : Source → (ℕ → List ℕ) → ℕ → Plain
 visits p rows zero = at_first p
 visits p rows (suc n) = after_visit p (rows n) (visits p rows n)
-
--- the word of what comes next: the task's number, or 16 after a stop
-abbrev pub next_word : Next → ℕ
-next_word (Next.Task t) = t.number
-next_word Next.Stopped = 16
 
 -- eight words for a record, 0 beyond its length
 abbrev pub eight : List ℕ → List ℕ

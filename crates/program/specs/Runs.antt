@@ -8,6 +8,11 @@ use Rattle.program.specs.declared.statement.Target.{Target}
 use Rattle.program.specs.declared.statement.Statement.{Statement}
 use Rattle.program.specs.declared.statement.Next.{Next}
 
+-- the word of what comes next: the task's number, or 16 after a stop
+abbrev pub next_word : Next → ℕ
+next_word (Next.Task t) = t.number
+next_word Next.Stopped = 16
+
 -- A run of a task so far: the visit's row, the variables, the locals, the record, and what the ending chose.
 pub record Run : Type 0 where
   pub inputs : List ℕ

@@ -137,6 +137,20 @@ pub enum Next {
     Stopped,
 }
 
+// As a word: the task's number, or 16 after a stop.
+impl From<Next> for u16 {
+    ghost use Rattle.program.specs.Runs.{next_word};
+
+    ghost from_gives = { λ next word. word ≡ next_word next };
+
+    fn from(next: Next) -> u16 {
+        match next {
+            Next::Task(task) => task.number() as u16,
+            Next::Stopped => 16,
+        }
+    }
+}
+
 impl fmt::Display for Operator {
     ghost use Rattle.program.specs.Signs.{operator_sign};
     ghost use Rattle.std.specs.Prelude.{Some};

@@ -1,11 +1,10 @@
 // The machine's page and record.
 ghost use Rattle.std.specs.Prelude.{◌≡◌, ◌<◌, slice_index};
 ghost use Rattle.words.specs.Lists.{items};
-ghost use Rattle.plain.specs.Plain.{page, next_word};
+ghost use Rattle.plain.specs.Plain.{page};
 ghost use Rattle.plain.specs.Machines.{plain_of, Paged};
 
 use crate::machine::Machine;
-use program::statement::Next;
 use thiserror::Error;
 use words::list::Words;
 
@@ -21,16 +20,6 @@ impl<'p> Machine<'p> {
         self.emitted
     }
 
-    // The number of the next task, 16 after a stop.
-    fn next_word(&self) -> u16
-        ensures { result ≡ next_word (plain_of self.now).next }
-    {
-        match self.next {
-            Next::Task(task) => task.number() as u16,
-            Next::Stopped => 16,
-        }
-    }
-
     // The word at a place of the page.
     fn word(&self, place: usize) -> u16
         ensures { result ≡ slice_index (page (plain_of self.now)) place }
@@ -39,7 +28,7 @@ impl<'p> Machine<'p> {
         match place {
             0 => (self.number % 65536) as u16,
             1 => (self.number / 65536) as u16,
-            2 => self.next_word(),
+            2 => self.next.into(),
             3 => emitted.len() as u16,
             4..12 => emitted.get(place - 4),
             _ => self.variables.get(place - 12),
