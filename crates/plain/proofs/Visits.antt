@@ -1,5 +1,5 @@
 -- A visit from its begin to its end.
-use Rattle.std.proofs.Common.{◌≡◌, ℕ, suc, ◌+◌, ◌-◌, ◌<◌, ◌≤◌, min, true, false, cond, eqb, ◌⊎◌, List, length, is_some, Some, None, Ok, Err, Option, Result, sym, refl, ap, ◌∙◌, inl, inr, arith}
+use Rattle.std.proofs.Common.{◌≡◌, ℕ, suc, ◌+◌, ◌-◌, ◌<◌, ◌≤◌, min, true, false, cond, eqb, ◌⊎◌, List, length, is_some, Some, None, Ok, Err, Option, Result, sym, refl, ap, ◌∙◌, inl, inr, subst, arith}
 use Rattle.std.proofs.lemmas.Bool.{cases_lt, eq-eqb, ne_eqb, true≢false, false≢true}
 use Rattle.program.specs.declared.statement.Index.{Index}
 use Rattle.program.specs.declared.statement.Next.{Next}
@@ -9,7 +9,8 @@ use Rattle.plain.specs.declared.machine.visits.Refusal.{Refusal}
 use Rattle.plain.specs.Plain.{Plain, last_number, after_visit, visits}
 use Rattle.plain.specs.Series.{after_rows}
 use Rattle.plain.specs.Steps.{Standing, coming, step_by, stepped, ends}
-use Rattle.plain.specs.Machines.{visit_refusal, Visited}
+use Rattle.plain.specs.Machines.{Continues, Running, Visited, visit_refusal}
+use Rattle.program.specs.Programs.{program_source}
 use Rattle.plain.proofs.Series.{numbers_visits}
 use Rattle.plain.proofs.Steps.{ends_on, ends_here}
 
@@ -48,6 +49,19 @@ stays : (p : Source) (row : List ℕ) (number : ℕ) (next : Next) (emitted vari
 stays p row number (Next.Task u) emitted variables e = let z : ◌≡◌ {A = ℕ} 0 1 = cc in absurd (omega arith)
 stays p row number Next.Stopped emitted variables e = refl
 
+-- where a visit leads from m, made or refused
+abbrev Leads : Source → List ℕ → Plain → Result (Unit {0}) Refusal → Plain → Type 0
+Leads p row m (Ok u) n = (visit_refusal m ≡ None) × (n ≡ after_visit p row m)
+Leads p row m (Err e) n = (visit_refusal m ≡ Some e) × (n ≡ m)
+
+leads : (row : List ℕ) (m n : Running) (r : Result (Unit {0}) Refusal) → Visited row m r n → Leads (program_source m.program) row m.state r n.state
+leads row m n (Ok u) (free, went) = (free, ap (λ (o : Running). o.state) went)
+leads row m n (Err e) (refused, same) = (refused, ap (λ (o : Running). o.state) same)
+
+same_program : (row : List ℕ) (m n : Running) (r : Result (Unit {0}) Refusal) → Visited row m r n → n.program ≡ m.program
+same_program row m n (Ok u) (free, went) = ap (λ (o : Running). o.program) went
+same_program row m n (Err e) (refused, same) = ap (λ (o : Running). o.program) same
+
 -- One visit more of a series, made or refused.
 module _ (p : Source) (rows : ℕ → List ℕ) (i : ℕ) (m n : Plain) (so_far : m ≡ after_rows p rows i) where
   numbered : (t : Index 16) → m.next ≡ Next.Task t → m.number ≡ min i last_number
@@ -69,7 +83,7 @@ module _ (p : Source) (rows : ℕ → List ℕ) (i : ℕ) (m n : Plain) (so_far 
       refusal_at m.number m.next m.emitted m.variables t goes
       ∙ ap (λ b. cond b (Some Refusal.LastNumber) None) (ne_eqb m.number last_number (λ last. omega arith))
 
-  pub series_on : (r : Result (Unit {0}) Refusal) → Visited p (rows i) m r n → n ≡ after_rows p rows (i + 1)
+  series_on : (r : Result (Unit {0}) Refusal) → Leads p (rows i) m r n → n ≡ after_rows p rows (i + 1)
   series_on (Ok u) (free, went) =
       elim (cases_lt i last_number) [
         | inl h ↦ went ∙ before_last h
@@ -89,3 +103,10 @@ module _ (p : Source) (rows : ℕ → List ℕ) (i : ℕ) (m n : Plain) (so_far 
         ]
         | inr h ↦ same ∙ past_last h
       ]
+
+pub continues : (row : List ℕ) (m n : Running) (r : Result (Unit {0}) Refusal) → Visited row m r n → Continues row m n
+continues row m n r visited = record {
+  program = same_program row m n r visited;
+  state = λ rows i here so_far.
+      series_on (program_source m.program) rows i m.state n.state so_far r (subst (λ (row : List ℕ). Leads (program_source m.program) row m.state r n.state) here (leads row m n r visited));
+}

@@ -2,6 +2,6 @@
 pub mod Frames
 pub mod Plain
 pub mod Steps
-pub mod Machines
 pub mod Series
+pub mod Machines
 pub mod Examples

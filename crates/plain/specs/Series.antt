@@ -13,10 +13,6 @@ row_at rows k = slice_index_or rows k []
 abbrev pub after_rows : Source → (ℕ → List ℕ) → ℕ → Plain
 after_rows p rows i = visits p rows (min i last_number)
 
--- m with this row becomes n, as one row more of any series does it
-abbrev pub Continues : Source → List ℕ → Plain → Plain → Type 0
-Continues p row m n = (rows : ℕ → List ℕ) (i : ℕ) → row ≡ rows i → m ≡ after_rows p rows i → n ≡ after_rows p rows (i + 1)
-
 -- As long as the machine has not stopped, its visit number is the number of visits.
 abbrev pub NumbersVisits : Type 0
 NumbersVisits = (p : Source) (rows : ℕ → List ℕ) (n : ℕ) (t : Index 16) → (visits p rows n).next ≡ Next.Task t → (visits p rows n).number ≡ n

@@ -1,9 +1,8 @@
 // The machine's visits.
 ghost use Rattle.std.specs.Prelude.{◌≡◌, ◌<◌};
-ghost use Rattle.program.specs.Programs.{program_source};
 ghost use Rattle.plain.specs.Frames.{run_of};
-ghost use Rattle.plain.specs.Plain.{last_number, first_next, at_first, left_by};
-ghost use Rattle.plain.specs.Machines.{plain_of, rules_of, Begun, Visited};
+ghost use Rattle.plain.specs.Plain.{last_number, first_next, left_by};
+ghost use Rattle.plain.specs.Machines.{Begun, Visited, at_start, moved_to, running};
 
 use crate::frame::Frame;
 use crate::machine::Machine;
@@ -35,8 +34,7 @@ fn first_next() -> Next
 impl<'p> Machine<'p> {
     // The machine before its first visit.
     pub fn new(program: &'p Program) -> Machine<'p>
-        ensures rules { result.program.now ≡ program.now }
-        ensures value { plain_of result ≡ at_first (program_source program.now) }
+        ensures { running result ≡ at_start program.now }
     {
         Machine {
             program,
@@ -49,7 +47,7 @@ impl<'p> Machine<'p> {
 
     // The next visit, before its first statement; the machine does not alter.
     pub fn begin(&self, row: &[u16; 8]) -> Result<Visit<'p>, Refusal>
-        ensures { Begun (rules_of self.now) row.now (plain_of self.now) result }
+        ensures { Begun row.now (running self.now) result }
     {
         match self.next {
             Next::Stopped => Err(Refusal::Stopped),
@@ -61,8 +59,7 @@ impl<'p> Machine<'p> {
     // Takes up where a visit has ended.
     fn settle(&mut self, end: Frame)
         requires { self.old.number < last_number }
-        ensures rules { self.new.program.now ≡ self.old.program.now }
-        ensures value { plain_of self.new ≡ left_by self.old.number (run_of end) }
+        ensures { running self.new ≡ moved_to (running self.old) (left_by self.old.number (run_of end)) }
     {
         self.number += 1;
         self.next = end.chosen;
@@ -72,8 +69,7 @@ impl<'p> Machine<'p> {
 
     // One visit with its row.
     pub fn visit(&mut self, row: &[u16; 8]) -> Result<(), Refusal>
-        ensures rules { self.new.program.now ≡ self.old.program.now }
-        ensures value { Visited (rules_of self.old) row.now (plain_of self.old) result (plain_of self.new) }
+        ensures { Visited row.now (running self.old) result (running self.new) }
     {
         let end = self.begin(row)?.finish();
         self.settle(end);
