@@ -3,7 +3,8 @@ ghost use Rattle.std.specs.Prelude.{◌≡◌, ◌<◌, ◌≤◌, MatchOption};
 
 use std::fmt;
 
-// One of at most N things of a kind, by its number in the order of their declarations.
+// One of at most N things of a kind, by its number in the order of their declarations. Seen as a number by a model it
+// would be no plainer to use: an enum that holds a value with a model cannot be passed by value twice in proved code.
 #[derive(Clone, Copy, PartialEq, Eq, Debug)]
 pub struct Index<const N: u8> {
     number: u8,
@@ -40,7 +41,7 @@ pub type Input = Index<8>;
 // A task of the program.
 pub type Task = Index<16>;
 
-// How many statements a skip passes over.
+// How many statements a skip passes over; without a model, as an index.
 #[derive(Clone, Copy, PartialEq, Eq, Debug)]
 pub struct Reach {
     count: u8,

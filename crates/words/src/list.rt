@@ -5,8 +5,8 @@ use std::alloc::AllocError;
 
 pub mod methods;
 
-// At most N items. It has no model: a value with a lifetime that holds one with a model can neither be copied nor taken
-// through `?` in code that is to be proved, and visits and machines are such values.
+// At most N items: an array with a count, since a fixed memory has no `Vec`. A model was tried: a value with a lifetime that
+// holds one with a model can neither be copied nor taken through `?` in proved code, and visits and machines are such.
 #[derive(Copy)]
 pub struct Short<T, const N: usize> {
     items: [T; N],

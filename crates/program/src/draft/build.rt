@@ -43,9 +43,7 @@ impl Draft {
     pub fn variable(&mut self, first: u16) -> Result<Variable, Flaw>
         ensures { DeclaresVariable first (source_of self.old) result (source_of self.new) }
     {
-        let Some(variable) = Variable::new(self.firsts.len() as u8) else {
-            return Err(Flaw::Variables);
-        };
+        let variable = Variable::new(self.firsts.len() as u8).ok_or(Flaw::Variables)?;
         let _ = self.firsts.push(first);
         Ok(variable)
     }
@@ -54,9 +52,7 @@ impl Draft {
     pub fn local(&mut self) -> Result<Local, Flaw>
         ensures { DeclaresLocal (source_of self.old) result (source_of self.new) }
     {
-        let Some(local) = Local::new(self.locals) else {
-            return Err(Flaw::Locals);
-        };
+        let local = Local::new(self.locals).ok_or(Flaw::Locals)?;
         self.locals += 1;
         Ok(local)
     }
@@ -74,9 +70,7 @@ impl Draft {
     pub fn task(&mut self) -> Result<Task, Flaw>
         ensures { DeclaresTask (source_of self.old) result (source_of self.new) }
     {
-        let Some(task) = Task::new(self.tasks()) else {
-            return Err(Flaw::Tasks);
-        };
+        let task = Task::new(self.tasks()).ok_or(Flaw::Tasks)?;
         self.open();
         Ok(task)
     }

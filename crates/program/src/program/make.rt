@@ -20,12 +20,10 @@ impl Program {
         if draft.tasks() == 0 {
             return Err(Flaw::NoTask);
         }
+        // Over numbers: a draft holds no list of tasks, and what the loop tells of a flawed one is its number.
         for number in 0..draft.tasks() {
-            let Some(task) = Task::new(number) else {
-                unreachable!()
-            };
             if !draft.task_sound(number) {
-                return Err(Flaw::Malformed(task));
+                return Err(Flaw::Malformed(Task::new(number).unwrap()));
             }
         }
         Ok(Program { draft })
