@@ -33,8 +33,7 @@ impl Fault {
     {
         match self {
             Fault::Cut(cut) => Some(cut),
-            Fault::Dark => None,
-            Fault::Outside => None,
+            Fault::Dark | Fault::Outside => None,
         }
     }
 }
@@ -47,14 +46,13 @@ impl From<Fault> for Raised {
     ghost from_gives = { λ e r. r.0 ≡ raise e };
 
     fn from(e: Fault) -> Raised {
-        match e {
-            Fault::Cut(cut) => Raised(Fault::Cut(Cut {
-                place: cut.place,
+        Raised(match e {
+            Fault::Cut(cut) => Fault::Cut(Cut {
                 layers: cut.layers.saturating_add(1),
-            })),
-            Fault::Dark => Raised(Fault::Dark),
-            Fault::Outside => Raised(Fault::Outside),
-        }
+                ..cut
+            }),
+            Fault::Dark | Fault::Outside => e,
+        })
     }
 }
 
@@ -93,7 +91,7 @@ impl Unmade {
 }
 
 // What was to become a memory, handed back with the reason why it did not.
-#[derive(Drop)]
+#[derive(PartialEq, Eq, Debug, Drop)]
 pub struct Unfit<T> {
     pub why: Unmade,
     pub given: T,

@@ -2,8 +2,7 @@
 ghost use Rattle.memory.specs.Examples.{ExamplesHold};
 
 // What faults and a memory's value come to on examples.
-pub fn examples_hold() -> u8
+pub fn examples_hold()
     ensures { ExamplesHold }
 {
-    0
 }

@@ -5,4 +5,5 @@ pub mod doubt;
 pub mod fault;
 pub mod interface;
 pub mod laws;
+pub mod light;
 pub mod through;

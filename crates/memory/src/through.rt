@@ -5,7 +5,7 @@ use crate::fault::{Cut, Fault};
 use crate::interface::Memory;
 
 // The word that stands, and the cut that the store met.
-#[derive(Clone, Copy)]
+#[derive(Clone, Copy, PartialEq, Eq, Debug)]
 pub struct Stood {
     pub word: u16,
     pub cut: Option<Cut>,
