@@ -1,5 +1,5 @@
 -- The words that lie in bytes: how many there are, each of them, and all of them once one is put.
-use Rattle.std.proofs.Common.{◌≡◌, ℕ, ◌+◌, ◌*◌, ◌/◌, ◌%◌, ◌<◌, ◌≤◌, true, ◌≢◌, List, length, get_or, set, sym, ap, ◌∙◌, subst, ⊎_elim, arith, length-set}
+use Rattle.std.proofs.Common.{◌≡◌, ℕ, ◌+◌, ◌*◌, ◌/◌, ◌%◌, ◌^◌, ◌<◌, ◌≤◌, true, ◌≢◌, List, [], ◌∷◌, length, get_or, set, sym, ap, ◌∙◌, subst, ⊎_elim, arith, length-set}
 use Rattle.std.proofs.lemmas.List.FromFn.{length-map-range_with_len, get_or-map-range_with_len}
 use Rattle.std.proofs.lemmas.List.{ext_get_or, get_or_past, get_or-set_other, get_or-set_same, set_past}
 use Rattle.std.proofs.lemmas.Bool.{cases_eq, eqb-true}
@@ -58,6 +58,10 @@ module _ (bytes : List ℕ) (p w : ℕ) (h : p < length bytes / 2) where
       (λ e. rw e (word_same ∙ sym (get_or-set_same (words_in bytes) p w 0 inside)))
       (λ ne. word_other k ne ∙ sym (get_or_words bytes k (omega arith)) ∙ sym (get_or-set_other (words_in bytes) p k w 0 ne))
       (cases_eq k p))
+
+-- a word's two bytes put, low byte first
+pub words_put : (bytes two : List ℕ) (p w : ℕ) → p < length bytes / 2 → w < 2 ^ 16 → two ≡ (w % 256) ∷ (w / 256 % 256) ∷ [] → words_in (set (set bytes (2 * p) (get_or two 0 0)) (2 * p + 1) (get_or two 1 0)) ≡ set (words_in bytes) p w
+words_put bytes two p w h fits e = let high : w / 256 % 256 ≡ w / 256 = omega arith in rw (e, high) (words_with bytes p w h)
 
 -- words that are equal have equal bytes
 module _ (xs ys : List ℕ) (even : none_over xs ≡ true) (also : none_over ys ≡ true) (small : EachByte xs) (each : EachByte ys) (same : words_in xs ≡ words_in ys) where

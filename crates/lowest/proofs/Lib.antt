@@ -1,4 +1,2 @@
 -- Lemmas of the lowest memories.
 pub mod InBytes
-pub mod Cuts
-pub mod Examples

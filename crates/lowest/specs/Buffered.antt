@@ -1,9 +1,10 @@
 -- A lowest memory as a value, by what its buffer means.
-use Rattle.std.specs.Prelude.{◌≡◌, ℕ, ◌<◌, ◌≤◌, true, false, List, length, None, Ok, Err, Result, slice_index, slice_set}
+use Rattle.std.specs.Prelude.{◌≡◌, ℕ, ◌<◌, ◌≤◌, true, false, List, length, None, Ok, Err, Result}
 use Rattle.memory.specs.declared.fault.Fault.{Fault}
 use Rattle.memory.specs.declared.fault.Fault.TheVariants.{Cut, Dark, Outside}
 use Rattle.memory.specs.declared.fault.Unfit.{Unfit}
 use Rattle.memory.specs.declared.fault.Unmade.TheVariants.{Size}
+use Rattle.memory.specs.Light.{doubt_of, is_lit}
 use Rattle.memory.specs.Value.{Limits, Relights, Value, Wrote}
 use Rattle.lowest.specs.declared.backing.Backing.{Ghosts}
 use Rattle.lowest.specs.declared.memories.Lowest.{Lowest}
@@ -16,13 +17,13 @@ module _ {B : Type 0} (buffer : Ghosts B) where
   held_by m = buffer.held m.backing
 
   abbrev pub seen_by : Lowest B → Value
-  seen_by m = lowest_value (lowest_kind buffer.whole (buffer.buffer m.backing)) (held_by m) m.charge m.lit m.doubt
+  seen_by m = lowest_value (lowest_kind buffer.whole (buffer.buffer m.backing)) (held_by m) m.charge (is_lit m.light) (doubt_of m.light)
 
   abbrev pub lawful_by : Lowest B → Type 0
-  lawful_by m = LowestLawful buffer.leaves (held_by m) m.charge m.lit m.scrap m.doubt
+  lawful_by m = LowestLawful buffer.leaves (held_by m) m.charge (is_lit m.light) m.scrap (doubt_of m.light)
 
   abbrev pub limits_by : (m : Lowest B) → lawful_by m → Limits (seen_by m)
-  limits_by m l = lowest_limits buffer.leaves buffer.whole (buffer.buffer m.backing) (held_by m) m.charge m.lit m.scrap m.doubt l
+  limits_by m l = lowest_limits buffer.leaves buffer.whole (buffer.buffer m.backing) (held_by m) m.charge (is_lit m.light) m.scrap (doubt_of m.light) l
 
   -- a memory over what the buffer holds: lit, nothing in doubt
   abbrev pub lit_over : B → ℕ → Value
@@ -48,9 +49,9 @@ module _ {B : Type 0} (buffer : Ghosts B) where
 
   -- a place that can be read and written, or the refusal
   abbrev pub Reaches : Lowest B → ℕ → Result ℕ Fault → Type 0
-  Reaches m p (Ok at) = (m.lit ≡ true) × (p < length (held_by m)) × (at ≡ p)
-  Reaches m p (Err Dark) = m.lit ≡ false
-  Reaches m p (Err Outside) = (m.lit ≡ true) × (length (held_by m) ≤ p)
+  Reaches m p (Ok at) = (is_lit m.light ≡ true) × (p < length (held_by m)) × (at ≡ p)
+  Reaches m p (Err Dark) = is_lit m.light ≡ false
+  Reaches m p (Err Outside) = (is_lit m.light ≡ true) × (length (held_by m) ≤ p)
   Reaches m p (Err (Cut c)) = ⊥
 
   -- what every memory promises of a write, and of a relight
@@ -62,7 +63,7 @@ module _ {B : Type 0} (buffer : Ghosts B) where
 
   -- what a write leaves in its buffer, cut or not; as much is over as before
   pub record Leaves (m : Lowest B) (p w : ℕ) (after : Lowest B) : Type 0 where
-    pub held : held_by after ≡ held_after buffer.leaves (held_by m) m.lit m.charge m.scrap p w
+    pub held : held_by after ≡ held_after buffer.leaves (held_by m) (is_lit m.light) m.charge m.scrap p w
     pub even : buffer.even after.backing ≡ buffer.even m.backing
 
   -- a relight is always done, with exactly the given charge, and does not alter the buffer
@@ -70,15 +71,3 @@ module _ {B : Type 0} (buffer : Ghosts B) where
     pub answer : r ≡ Ok tt
     pub backing : after.backing ≡ m.backing
     pub seen : seen_by after ≡ lit_over m.backing power
-
-  -- a word put at a place; with the word that stood there put back, the buffer holds what it held
-  pub record Put (before : B) (p w : ℕ) (after : B) : Type 0 where
-    pub held : buffer.held after ≡ slice_set (buffer.held before) p w
-    pub there : slice_index (buffer.held after) p ≡ w
-    pub back : slice_set (buffer.held after) p (slice_index (buffer.held before) p) ≡ buffer.held before
-    pub same : buffer.buffer after ≡ buffer.buffer before
-    pub even : buffer.even after ≡ buffer.even before
-
-  -- the same memory with nothing in doubt
-  abbrev pub sure_of : Lowest B → Lowest B
-  sure_of m = record { backing = m.backing; charge = m.charge; lit = m.lit; scrap = m.scrap; doubt = None }

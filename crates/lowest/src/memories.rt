@@ -1,21 +1,20 @@
 // A lowest memory: words in a buffer, price 1, dues 0, and what a cut leaves by the last scrap given.
-ghost use Rattle.std.specs.Prelude.{◌≡◌, ℕ, ◌<◌, length};
-ghost use Rattle.lowest.specs.Buffered.{Done, Leaves, Makes, Put, Reaches, RelightsBy, Writes, held_by, lawful_by, limits_by, seen_by, sure_of};
-ghost use Rattle.memory.specs.Value.{MayHold};
+ghost use Rattle.std.specs.Prelude.{◌≡◌, ℕ};
+ghost use Rattle.lowest.specs.Buffered.{Done, Leaves, Makes, Reaches, RelightsBy, Writes, lawful_by, limits_by, seen_by};
 
 use crate::backing::{Backing, Bytes, Words};
 use memory::doubt::Doubt;
 use memory::fault::{Cut, Fault, Unfit, Unmade};
 use memory::interface::Memory;
+use memory::light::Light;
 
 #[derive(Drop)]
 pub struct Lowest<B: Backing> {
     backing: B,
     charge: u32,
-    lit: bool,
+    light: Light,
     // the last scrap given
     scrap: u16,
-    doubt: Option<Doubt>,
 }
 
 // Plain words, in a list that a caller hands in: whole.
@@ -23,14 +22,6 @@ pub type PlainWords<'a> = Lowest<Words<'a>>;
 
 // An image, in bytes that a caller hands in: torn.
 pub type Image<'a> = Lowest<Bytes<'a>>;
-
-// Puts a word at a place that the buffer has.
-fn put_inside<B: Backing>(backing: &mut B, place: usize, word: u16)
-    requires { place < length (B.Backing.held backing.old) }
-    ensures { Put B.Backing backing.old place word backing.new }
-{
-    backing.put(place, word);
-}
 
 impl<B: Backing> Lowest<B> {
     // Lit, over the words that the buffer holds.
@@ -46,45 +37,24 @@ impl<B: Backing> Lowest<B> {
         Ok(Lowest {
             backing,
             charge,
-            lit: true,
+            light: Light::Lit,
             scrap,
-            doubt: None,
         })
     }
 
-    // The place, as the buffer counts it, or why the memory refuses it.
+    // The place as the buffer counts it, or why the memory refuses it.
     fn reach(&self, place: u16) -> Result<usize, Fault>
         ensures { Reaches B.Backing self.now place result }
     {
-        if !self.lit {
-            return Err(Fault::Dark);
-        }
-        let at = place as usize;
-        if at >= self.backing.len() {
-            return Err(Fault::Outside);
-        }
-        Ok(at)
-    }
-
-    // What stands in the buffer is one of the lists that the memory may hold: nothing is in doubt any more.
-    fn settle(&mut self)
-        ensures found { lawful_by B.Backing self.old → MayHold (seen_by B.Backing self.old) (held_by B.Backing self.old) }
-        ensures sure { self.new ≡ sure_of B.Backing self.old }
-    {
-        self.doubt = None;
+        self.light.reach(place, self.backing.len())?;
+        Ok(place as usize)
     }
 
     // The buffer is handed back.
     pub fn into_backing(self) -> B
         ensures { result ≡ self.backing }
     {
-        let Lowest {
-            backing,
-            charge: _,
-            lit: _,
-            scrap: _,
-            doubt: _,
-        } = self;
+        let Lowest { backing, .. } = self;
         backing
     }
 }
@@ -99,8 +69,7 @@ impl<B: Backing> Memory for Lowest<B> {
     ghost given = { λ m s. m.scrap ≡ s };
 
     fn len(&self) -> u16 {
-        let len = self.backing.len();
-        if len > 32768 { 32768 } else { len as u16 }
+        self.backing.len().min(32768) as u16
     }
 
     fn price(&self) -> u8 {
@@ -116,7 +85,7 @@ impl<B: Backing> Memory for Lowest<B> {
     }
 
     fn lit(&self) -> bool {
-        self.lit
+        self.light.is_lit()
     }
 
     fn read(&self, place: u16) -> Result<u16, Fault> {
@@ -134,13 +103,13 @@ impl<B: Backing> Memory for Lowest<B> {
         if self.charge < 1 {
             let old = self.backing.get(at);
             let left = self.backing.left_by_cut(self.scrap, old, word);
-            put_inside(&mut self.backing, at, left);
-            self.lit = false;
-            self.doubt = Some(Doubt {
+            self.backing.put(at, left);
+            let doubt = Doubt {
                 place,
                 old,
                 new: word,
-            });
+            };
+            self.light = Light::Dark(Some(doubt));
             return Err(Fault::Cut(Cut { place, layers: 0 }));
         }
         self.backing.put(at, word);
@@ -154,10 +123,9 @@ impl<B: Backing> Memory for Lowest<B> {
         ensures scrap { self.new.scrap ≡ scrap }
         ensures done { Done B.Backing self.old charge result self.new }
     {
-        self.settle();
         self.charge = charge;
         self.scrap = scrap;
-        self.lit = true;
+        self.light = Light::Lit;
         Ok(())
     }
 }

@@ -1,8 +1,9 @@
 // Whether a memory is lit, and what is in doubt in a dark one.
 ghost use Rattle.std.specs.Prelude.{◌≡◌};
-ghost use Rattle.memory.specs.Light.{doubt_of, is_lit};
+ghost use Rattle.memory.specs.Light.{doubt_of, is_lit, reached};
 
 use crate::doubt::Doubt;
+use crate::fault::Fault;
 
 // Lit, with nothing in doubt; or dark, with the place in doubt if there is one.
 #[derive(Clone, Copy, PartialEq, Eq, Debug)]
@@ -25,6 +26,16 @@ impl Light {
         match self {
             Light::Lit => None,
             Light::Dark(doubt) => doubt,
+        }
+    }
+    // Whether a place of so many can be read and written, or why not.
+    pub fn reach(self, place: u16, count: usize) -> Result<(), Fault>
+        ensures { result ≡ reached (is_lit self) place count }
+    {
+        match self {
+            Light::Dark(_) => Err(Fault::Dark),
+            Light::Lit if usize::from(place) < count => Ok(()),
+            Light::Lit => Err(Fault::Outside),
         }
     }
 }

@@ -1,54 +1,10 @@
 // Bytes as a buffer: the word at place p has its low part in byte 2p and its high part in byte 2p + 1.
-ghost use Rattle.std.specs.Prelude.{◌≡◌, ◌/◌, ◌<◌, false, length, slice_index, slice_set};
-ghost use Rattle.lowest.specs.Image.{none_over, with_word, word_at, words_in};
+ghost use Rattle.std.specs.Prelude.{false};
+ghost use Rattle.lowest.specs.Image.{none_over, words_in};
 ghost use Rattle.lowest.specs.Lowest.{left_in_image};
 ghost use Rattle.lowest.specs.Members.{left_in_image_allowed};
 
 use crate::backing::{Backing, Bytes};
-
-// How many words the bytes hold.
-fn count(bytes: &[u8]) -> usize
-    ensures { result ≡ length (words_in bytes.now) }
-{
-    bytes.len() / 2
-}
-
-// The word of the two bytes at a place.
-fn join(bytes: &[u8], place: usize) -> u16
-    requires { place < length bytes.now / 2 }
-    ensures { result ≡ word_at bytes.now place }
-{
-    bytes[2 * place] as u16 + 256 * bytes[2 * place + 1] as u16
-}
-
-// Puts a word into the two bytes at a place.
-fn split(bytes: &mut [u8], place: usize, word: u16)
-    requires { place < length bytes.old / 2 }
-    ensures { bytes.new ≡ with_word bytes.old place word }
-{
-    bytes[2 * place] = (word % 256) as u8;
-    bytes[2 * place + 1] = (word / 256) as u8;
-}
-
-// The word at a place, 0 past the last.
-fn get_word(bytes: &[u8], place: usize) -> u16
-    ensures { result ≡ slice_index (words_in bytes.now) place }
-{
-    if place < bytes.len() / 2 {
-        join(bytes, place)
-    } else {
-        0
-    }
-}
-
-// Puts a word at a place; past the last nothing alters.
-fn put_word(bytes: &mut [u8], place: usize, word: u16)
-    ensures { words_in bytes.new ≡ slice_set (words_in bytes.old) place word }
-{
-    if place < bytes.len() / 2 {
-        split(bytes, place, word);
-    }
-}
 
 impl<'a> Backing for Bytes<'a> {
     ghost held = { λ b. words_in b.0.now };
@@ -63,8 +19,9 @@ impl<'a> Backing for Bytes<'a> {
 
     ghost allowed = { left_in_image_allowed };
 
+    #[tactic(auto, using(crate::proofs::InBytes::length_words))]
     fn len(&self) -> usize {
-        count(self.0)
+        self.0.len() / 2
     }
 
     fn even(&self) -> bool {
@@ -79,11 +36,21 @@ impl<'a> Backing for Bytes<'a> {
         scrap
     }
 
+    #[tactic(auto, using(crate::proofs::InBytes::get_or_words, crate::proofs::InBytes::past_words))]
     fn get(&self, place: usize) -> u16 {
-        get_word(self.0, place)
+        if place < self.0.len() / 2 {
+            u16::from_le_bytes([self.0[2 * place], self.0[2 * place + 1]])
+        } else {
+            0
+        }
     }
 
+    #[tactic(auto, using(crate::proofs::InBytes::words_put, crate::proofs::InBytes::put_past_words))]
     fn put(&mut self, place: usize, word: u16) {
-        put_word(self.0, place, word);
+        if place < self.0.len() / 2 {
+            let [low, high] = word.to_le_bytes();
+            self.0[2 * place] = low;
+            self.0[2 * place + 1] = high;
+        }
     }
 }

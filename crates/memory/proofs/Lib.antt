@@ -1,2 +1,0 @@
--- Lemmas of memories.
-pub mod Examples
