@@ -8,4 +8,3 @@ pub mod Kept
 pub mod Writing
 pub mod Relighting
 pub mod Scans
-pub mod Examples

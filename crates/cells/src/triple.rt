@@ -3,7 +3,7 @@ ghost use Rattle.cells.specs.Triple.{MendedBy, ReadAs};
 ghost use Rattle.std.specs.Prelude.{◌≡◌};
 
 // A unit kept three times.
-#[derive(Clone, Copy)]
+#[derive(Clone, Copy, PartialEq, Eq, Debug)]
 pub struct Triple<T> {
     pub a: T,
     pub b: T,
@@ -11,7 +11,7 @@ pub struct Triple<T> {
 }
 
 // The stores that make three cells equal.
-#[derive(Clone, Copy)]
+#[derive(Clone, Copy, PartialEq, Eq, Debug)]
 pub enum Repair<T> {
     // they are equal
     Nothing,

@@ -1,6 +1,0 @@
--- `stores_through_a_cut_stands`: the law by its lemma.
-use Rattle.cells.proofs.Triples.{stores_through_a_cut}
-use Rattle.cells.proofs.laws.stores_through_a_cut_stands.Goals as goal
-
-pub returns : goal.returns
-returns g c = stores_through_a_cut g.row.T.Denot
