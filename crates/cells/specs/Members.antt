@@ -3,15 +3,19 @@ use Rattle.std.specs.Prelude.{◌≡◌, ℕ, ◌/◌, ◌≤◌, Bool, true, fa
 use Rattle.std.proofs.Common.{◌∙◌, arith}
 use Rattle.std.proofs.lemmas.List.FromFn.{length-map-range_with_len}
 use Rattle.memory.specs.declared.doubt.Doubt.{Doubt}
-use Rattle.memory.specs.Value.{Limits, Value, length_settled}
+use Rattle.memory.specs.Value.{Limits, Value, length_settled, settled}
 use Rattle.cells.specs.Cells.{word_of, words_of}
 use Rattle.cells.specs.Three.{ThreeLawful, three_value}
 
 pub length_words : (words : List ℕ) → length (words_of words) ≡ length words / 3
 length_words words = length-map-range_with_len (word_of words) 0 (length words / 3)
 
+-- whatever is in doubt
+pub length_three_words : (doubt : Option Doubt) (words : List ℕ) → length (settled doubt (words_of words)) ≡ length words / 3
+length_three_words doubt words = length_settled doubt (words_of words) ∙ length_words words
+
 pub length_three : (below : Value) (lit : Bool) (doubt : Option Doubt) → length (three_value below lit doubt).words ≡ length below.words / 3
-length_three below lit doubt = length_settled doubt (words_of below.words) ∙ length_words below.words
+length_three below lit doubt = length_three_words doubt below.words
 
 charge_shown : (lit : Bool) (charge : ℕ) → cond lit charge 0 ≤ charge
 charge_shown true charge = omega arith

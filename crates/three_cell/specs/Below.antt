@@ -1,16 +1,17 @@
 -- What is done to the memory below, by what that memory means.
-use Rattle.std.specs.Prelude.{◌≡◌, ℕ, ◌+◌, ◌*◌, ◌<◌, ◌≤◌, true, cond, List, length, None, Ok, Err, Option, Result, nat_lt, slice_index}
+use Rattle.std.specs.Prelude.{◌≡◌, ℕ, ◌+◌, ◌*◌, ◌<◌, ◌≤◌, true, not, cond, List, length, is_some, None, Ok, Err, Option, Result, nat_lt, slice_index}
 use Rattle.memory.specs.declared.doubt.Doubt.{Doubt}
 use Rattle.memory.specs.declared.fault.Fault.{Fault}
 use Rattle.memory.specs.declared.fault.Fault.TheVariants.{Dark, Outside}
 use Rattle.memory.specs.declared.fault.Raised.{Raised}
 use Rattle.memory.specs.declared.fault.Unmade.{Unmade}
 use Rattle.memory.specs.declared.interface.Memory.{Ghosts}
-use Rattle.memory.specs.Value.{settled}
+use Rattle.memory.specs.declared.light.Light.{Light}
+use Rattle.memory.specs.Light.{doubt_of, is_lit}
 use Rattle.cells.specs.declared.triple.Triple.{Triple}
 use Rattle.cells.specs.Triple.{To}
 use Rattle.cells.specs.Cells.{mended, stored_to, thirds, triple_at, words_of}
-use Rattle.cells.specs.Three.{Follows, MadeAbove, Recovers, StoredAbove, ThreeLawful, doubt_at, judged, unequal}
+use Rattle.cells.specs.Three.{Follows, MadeAbove, Recovers, StoredAbove, ThreeLawful, doubt_at, judged, made_over, unequal}
 
 module _ {M : Type 0} (memory : Ghosts M) where
   abbrev words_in : M → List ℕ
@@ -42,10 +43,6 @@ module _ {M : Type 0} (memory : Ghosts M) where
   abbrev pub ReadsWord : M → ℕ → Result ℕ Fault → Type 0
   ReadsWord m p r = memory.lawful m → (memory.seen m).lit ≡ true → p < thirds (words_in m) → r ≡ Ok (slice_index (words_of (words_in m)) p)
 
-  -- how many words there are, whatever is in doubt
-  abbrev pub Counts : M → ℕ → Type 0
-  Counts m n = memory.lawful m → (n ≡ thirds (words_in m)) × ((doubt : Option Doubt) → n ≡ length (settled doubt (words_of (words_in m))))
-
   -- what is in doubt in word p, in all words, and in a memory made above
   abbrev pub Doubts : M → ℕ → Option Doubt → Type 0
   Doubts m p r = memory.lawful m → (memory.seen m).lit ≡ true → 3 * p + 2 < length (words_in m) → r ≡ doubt_at (words_in m) p
@@ -55,3 +52,8 @@ module _ {M : Type 0} (memory : Ghosts M) where
 
   abbrev pub FitsAbove : M → Result (Option Doubt) Unmade → Type 0
   FitsAbove m r = memory.lawful m → (memory.seen m).lit ≡ true → (memory.seen m).kind.price ≤ 3 → (memory.seen m).kind.dues ≤ 2 → MadeAbove (memory.seen m) r
+
+  -- the light of a memory made above, or why none is made
+  abbrev pub Lights : M → Result Light Unmade → Type 0
+  Lights m (Ok light) = (is_lit light ≡ not (is_some (doubt_of light))) × (memory.lawful m → (made_over (memory.seen m) ≡ Ok (doubt_of light)) × ThreeLawful (memory.seen m) (is_lit light) (doubt_of light))
+  Lights m (Err why) = memory.lawful m → made_over (memory.seen m) ≡ Err why

@@ -3,3 +3,4 @@
 
 pub mod making;
 pub mod memories;
+mod site;
