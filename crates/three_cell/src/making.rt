@@ -28,7 +28,7 @@ fn scan<M: Memory>(below: &M) -> Result<Option<Doubt>, Unmade>
     ensures above { FitsAbove M.Memory below.now result }
 {
     let mut found = None;
-    // A memory is read by its places: it has no list of words to go over.
+    // A loop, since a closure would not know that the places lie in the memory.
     for place in 0..below.len() / 3 {
         let site = Site { place };
         found = only(found, site.doubt(below))?;

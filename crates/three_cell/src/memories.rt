@@ -21,7 +21,7 @@ fn recover<M: Memory>(below: &mut M, charge: u32, scrap: u16) -> Result<(), Rais
     ensures scrap { M.Memory.given below.new scrap }
 {
     below.relight(charge, scrap)?;
-    // A memory is read and stored by its places: it has no list of words to go over.
+    // A loop, since a closure that stores would not tell what the memory then is.
     for place in 0..below.len() / 3 {
         let site = Site { place };
         site.mend(below)?;
