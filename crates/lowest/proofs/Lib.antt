@@ -1,2 +1,3 @@
 -- Lemmas of the lowest memories.
 pub mod InBytes
+pub mod Cuts

@@ -94,6 +94,7 @@ impl<B: Backing> Memory for Lowest<B> {
     }
 
     // Beyond what every memory promises: what it leaves in the buffer.
+    #[tactic(auto, using(std::proofs::Common::rules, crate::proofs::Cuts::left_there, crate::proofs::Cuts::back_after))]
     fn write(&mut self, place: u16, word: u16) -> Result<(), Fault>
         ensures wrote { Writes B.Backing self.old place word result self.new }
         ensures scrap { (s : ℕ) → self.old.scrap ≡ s → self.new.scrap ≡ s }
