@@ -82,8 +82,8 @@ stays v n (suc m) f e h =
     ap (λ (r : Result (Unit {0}) Fault). elim r [ Ok x ↦ mended (mended_below v m).value m | Err g ↦ mended_below v m ]) stopped ∙ before)
     (cases_eq (suc m) n)
 
-pub mending-ends : (v : Value) (n m : ℕ) (u after : Value) (y : Raised) → Mending v n u → n < m → Follows (mended u n) (Err y) after → Follows (mended_below v m) (Err y) after
-mending-ends v n m u after y k h f =
+pub mending_ends : (v : Value) (n m : ℕ) (u after : Value) (y : Raised) → Mending v n u → n < m → Follows (mended u n) (Err y) after → Follows (mended_below v m) (Err y) after
+mending_ends v n m u after y k h f =
     let next = then_mended v u n k.so_far in
     let e = raised_err (mended u n).answer y f.answer in
     let end = stays v (suc n) m e.0 (ap (λ (o : Outcome). o.answer) next ∙ e.1) (omega arith) in

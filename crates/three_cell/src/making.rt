@@ -22,7 +22,7 @@ fn only(found: Option<Doubt>, next: Option<Doubt>) -> Result<Option<Doubt>, Unma
 }
 
 // Looks at the cells of every word.
-#[tactic(auto, using(cells::proofs::Scans::made_above))]
+#[tactic(auto, using(cells::proofs::Scans::made_above, cells::proofs::Scans::one_more, cells::proofs::Scans::still_too_many))]
 fn scan<M: Memory>(below: &M) -> Result<Option<Doubt>, Unmade>
     ensures found { ScansAll M.Memory below.now result }
     ensures above { FitsAbove M.Memory below.now result }

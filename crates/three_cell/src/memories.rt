@@ -16,6 +16,7 @@ pub struct ThreeCell<M: Memory> {
 }
 
 // Relights the memory below, and then mends all words, upward: after a loss of power nothing but the memory remembers.
+#[tactic(auto, using(cells::proofs::Kept::mending_more))]
 fn recover<M: Memory>(below: &mut M, charge: u32, scrap: u16) -> Result<(), Raised>
     ensures relit { RelightsAll M.Memory below.old charge result below.new }
     ensures scrap { M.Memory.given below.new scrap }
