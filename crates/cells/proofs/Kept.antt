@@ -22,7 +22,7 @@ pub record Mending (v : Value) (n : ℕ) (after : Value) : Type 0 where
 
 -- a refused store and a made one are two
 refused_not_made : (o : Outcome) (e : Fault) (after : Value) → o ≡ record { answer = Err e; value = after } → o.answer ≡ Ok tt → ⊥
-refused_not_made o e after is ok = let z : ◌≡◌ {A = ℕ} 0 1 = cc in omega arith
+refused_not_made o e after is ok = cc
 
 stored_kept : (ss : List (To ℕ)) (v : Value) (p : ℕ) → v.lit ≡ true → (stored_to v p ss).answer ≡ Ok tt → Kept v (stored_to v p ss).value
 stored_kept [] v p lit ok = record { lit = lit; long = refl }
@@ -49,10 +49,10 @@ stored_kept (s ∷ rest) v p lit ok =
 -- an answer on its way up tells whether the stores were made
 pub raised_ok : (r : Result (Unit {0}) Fault) → Ok tt ≡ raised r → r ≡ Ok tt
 raised_ok (Ok u) e = refl
-raised_ok (Err f) e = let z : ◌≡◌ {A = ℕ} 0 1 = cc in absurd (omega arith)
+raised_ok (Err f) e = cc
 
 raised_err : (r : Result (Unit {0}) Fault) (y : Raised) → Err y ≡ raised r → (f : Fault) × (r ≡ Err f)
-raised_err (Ok u) y e = let z : ◌≡◌ {A = ℕ} 0 1 = cc in absurd (omega arith)
+raised_err (Ok u) y e = cc
 raised_err (Err f) y e = (f, refl)
 
 -- one word after those below n, if nothing was refused there

@@ -1,5 +1,5 @@
 -- What a three-cell memory keeps, after stores to one word that were all made, and after a cut at one of them.
-use Rattle.std.proofs.Common.{◌≡◌, ℕ, ◌/◌, ◌<◌, ◌≤◌, true, false, ◌≢◌, List, length, Some, None, sym, refl, subst, ⊎_elim, arith}
+use Rattle.std.proofs.Common.{◌≡◌, ℕ, ◌/◌, ◌<◌, ◌≤◌, true, false, ◌≢◌, List, length, Some, None, sym, refl, subst, ⊎_elim}
 use Rattle.std.proofs.lemmas.Bool.{cases_eq, false≢true}
 use Rattle.memory.specs.Value.{Kind}
 use Rattle.cells.specs.Triple.{Equal, To, Underway}
@@ -18,8 +18,8 @@ module _ (kind : Kind) (cheap : kind.price ≤ 3) (low : kind.dues ≤ 2) (p : �
         low = low;
         sure = λ _. refl;
         lit_below = λ _. refl;
-        doubt_inside = λ d e. let z : ◌≡◌ {A = ℕ} 0 1 = cc in absurd (omega arith);
-        cell_inside = λ d e. let z : ◌≡◌ {A = ℕ} 0 1 = cc in absurd (omega arith);
+        doubt_inside = λ d e. cc;
+        cell_inside = λ d e. cc;
         sound = λ found m k h.
             subst (λ (ws : List ℕ). Equal (triple_at ws k)) (sym m)
             (⊎_elim

@@ -7,7 +7,7 @@ use Rattle.memory.specs.declared.fault.Cut.{Cut}
 use Rattle.memory.specs.declared.fault.Fault.{Fault}
 use Rattle.memory.specs.declared.fault.Fault.TheVariants as fault
 use Rattle.memory.specs.declared.fault.Raised.{Raised}
-use Rattle.memory.specs.Value.{CutAgain, CutInRelight, Kind, Limits, MayHold, MayHoldIn, NoMoreInDoubt, Relights, Relit, Value, settled}
+use Rattle.memory.specs.Value.{CutAgain, CutInRelight, Kind, Limits, MayHold, MayHoldIn, NoMoreInDoubt, Relights, Relit, SureWhen, Value, settled}
 use Rattle.cells.specs.declared.triple.Triple.{Triple}
 use Rattle.cells.specs.Triple.{A, B, C, Cell, Equal, To, Underway, mending, mends, reads, stores}
 use Rattle.cells.specs.Cells.{Outcome, lowest_of, mended, mended_below, place_of, stored_to, thirds, triple_at, word_of, words_of}
@@ -18,11 +18,11 @@ use Rattle.cells.proofs.CellLists.{SameBut, same_self, same_set, same_sets, same
 use Rattle.cells.proofs.Kept.{then_mended}
 use Rattle.cells.proofs.Lawful.{stored_lawful, torn_lawful}
 use Rattle.cells.proofs.Stores.{Torn, cells_of, cost, lit_is, lit_value, ran}
-use Rattle.cells.proofs.Writing.{raise_cut, reads_same}
+use Rattle.cells.proofs.Writing.{held_sure, layers_counted, one_up, raised_cut, reads_same}
 
 -- a word with equal cells wants no store
 pub mended_equal : (v : Value) (k : ℕ) → Equal (triple_at v.words k) → mended v k ≡ record { answer = Ok tt; value = v }
-mended_equal v k e = ap (λ (ss : List (To ℕ)). stored_to v k ss) (mends_none eqb (λ x y. eq-eqb x y) (triple_at v.words k) e)
+mended_equal v k e = ap (λ (ss : List (To ℕ)). stored_to v k ss) (mends_none eqb eq-eqb (triple_at v.words k) e)
 
 -- equal cells throughout want none
 all_equal : (v : Value) (n : ℕ) → ((k : ℕ) → k < n → Equal (triple_at v.words k)) → mended_below v n ≡ record { answer = Ok tt; value = v }
@@ -61,53 +61,66 @@ held_in whole (Some e) words found p inside m =
     let c = cell_of e.place p (inside e refl) in
     subst (SameBut p words) (sym (m.2 ∙ ap (λ q. set words q m.0) c.1)) (same_set c.0 p m.0 words)
 
--- with no more in doubt, no more may be held
-may_before : (b after : Value) → after.kind ≡ b.kind → NoMoreInDoubt b after → (found : List ℕ) → MayHold after found → MayHold b found
-may_before b after kind less found m =
+-- With no more in doubt, the words are as they were, or some that may be held.
+still_held : (b after : Value) (P : List ℕ → Type 0) → P b.words → ((found : List ℕ) → MayHold b found → P found) → NoMoreInDoubt b after → P after.words
+still_held b after P same any less =
     ⊎_elim
-    (λ (s : (after.doubt ≡ None) × MayHold b after.words). subst (MayHold b) (sym (subst (λ (d : Option Doubt). MayHoldIn after.kind.whole d after.words found) s.0 m)) s.1)
-    (λ (s : (after.doubt ≡ b.doubt) × (after.words ≡ b.words)).
-    subst (λ (ws : List ℕ). MayHoldIn b.kind.whole b.doubt ws found) s.1
-    (subst (λ (d : Option Doubt). MayHoldIn b.kind.whole d after.words found) s.0
-    (subst (λ (k : Kind). MayHoldIn k.whole after.doubt after.words found) kind m)))
+    (λ (s : (after.doubt ≡ None) × MayHold b after.words). any after.words s.1)
+    (λ (s : (after.doubt ≡ b.doubt) × (after.words ≡ b.words)). subst P (sym s.1) same)
     less
+
+-- So no more may be held, and what a three-cell memory keeps it keeps.
+module _ (b after : Value) (lit : Bool) (doubt : Option Doubt) (t : ThreeLawful b lit doubt) (kind : after.kind ≡ b.kind) (long : length after.words ≡ length b.words) (less : NoMoreInDoubt b after) where
+  may_before : (found : List ℕ) → MayHold after found → MayHold b found
+  may_before found m =
+      ⊎_elim
+      (λ (s : (after.doubt ≡ None) × MayHold b after.words). subst (MayHold b) (sym (held_sure after found s.0 m)) s.1)
+      (λ (s : (after.doubt ≡ b.doubt) × (after.words ≡ b.words)).
+      subst (λ (ws : List ℕ). MayHoldIn b.kind.whole b.doubt ws found) s.1
+      (subst (λ (d : Option Doubt). MayHoldIn b.kind.whole d after.words found) s.0
+      (subst (λ (k : Kind). MayHoldIn k.whole after.doubt after.words found) kind m)))
+      less
+
+  doubt_before : (e : Doubt) → after.doubt ≡ Some e → b.doubt ≡ Some e
+  doubt_before e is = ⊎_elim (λ (s : (after.doubt ≡ None) × MayHold b after.words). let none = s.0 in cc) (λ (s : (after.doubt ≡ b.doubt) × (after.words ≡ b.words)). sym s.0 ∙ is) less
+
+  lawful_after : (now : Bool) → SureWhen now doubt → (now ≡ true → after.lit ≡ true) → ThreeLawful after now doubt
+  lawful_after now sure lit_below = record {
+    cheap = subst (λ (k : Kind). k.price ≤ 3) (sym kind) t.cheap;
+    low = subst (λ (k : Kind). k.dues ≤ 2) (sym kind) t.low;
+    sure = sure;
+    lit_below = lit_below;
+    doubt_inside = λ d e. subst (λ n. d.place < n / 3) (sym long) (t.doubt_inside d e);
+    cell_inside = λ e is. t.cell_inside e (doubt_before e is);
+    sound = λ found m k h. t.sound found (may_before found m) k (subst (λ n. k < n / 3) long h);
+  }
 
 -- Where a store to a cell of word p is cut, a store to the word is, at some charge below its price.
 abbrev CutInWord : Kind → ℕ → ℕ → Type 0
 CutInWord k p place = (y : ℕ) × (y < 3 * k.price) × (place ≡ lowest_of k y p (A ∷ B ∷ C ∷ []))
 
-module _ (k : Kind) (p x : ℕ) (low : x < k.price) where
-  cut_in_a : CutInWord k p (k.lowest x (3 * p))
-  cut_in_a = (x, omega arith, sym (rw (lt-ltb x k.price low)))
-
-  cut_in_b : CutInWord k p (k.lowest x (3 * p + 1))
-  cut_in_b =
-      let past_a : k.price ≤ x + k.price = omega arith in
-      let left : x + k.price - k.price ≡ x = omega arith in
-      (x + k.price, omega arith, sym (rw (le-ltb (x + k.price) k.price past_a, left, lt-ltb x k.price low)))
-
-  cut_in_c : CutInWord k p (k.lowest x (3 * p + 2))
-  cut_in_c =
-      let past_a : k.price ≤ x + k.price + k.price = omega arith in
-      let past_b : k.price ≤ x + k.price = omega arith in
-      let left_a : x + k.price + k.price - k.price ≡ x + k.price = omega arith in
-      let left_b : x + k.price - k.price ≡ x = omega arith in
-      (x + k.price + k.price, omega arith, sym (rw (le-ltb (x + k.price + k.price) k.price past_a, left_a, le-ltb (x + k.price) k.price past_b, left_b, lt-ltb x k.price low)))
-
-  cut_in_cell : (j : Cell) → CutInWord k p (k.lowest x (place_of j p))
-  cut_in_cell A = cut_in_a
-  cut_in_cell B = cut_in_b
-  cut_in_cell C = cut_in_c
+cut_in_cell : (k : Kind) (p x : ℕ) → x < k.price → (j : Cell) → CutInWord k p (k.lowest x (place_of j p))
+cut_in_cell k p x low A = (x, omega arith, sym (rw (lt-ltb x k.price low)))
+cut_in_cell k p x low B =
+    let past_a : k.price ≤ x + k.price = omega arith in
+    let left : x + k.price - k.price ≡ x = omega arith in
+    (x + k.price, omega arith, sym (rw (le-ltb (x + k.price) k.price past_a, left, lt-ltb x k.price low)))
+cut_in_cell k p x low C =
+    let past_a : k.price ≤ x + k.price + k.price = omega arith in
+    let past_b : k.price ≤ x + k.price = omega arith in
+    let left_a : x + k.price + k.price - k.price ≡ x + k.price = omega arith in
+    let left_b : x + k.price - k.price ≡ x = omega arith in
+    (x + k.price + k.price, omega arith, sym (rw (le-ltb (x + k.price + k.price) k.price past_a, left_a, le-ltb (x + k.price) k.price past_b, left_b, lt-ltb x k.price low)))
 
 -- so is one where a repair is cut
 cut_in_repair : (k : Kind) (p c : ℕ) (bc ab : Bool) (t : Triple ℕ) → c < cost k (stores (mending bc ab t)) → CutInWord k p (lowest_of k c p (cells_of (stores (mending bc ab t))))
 cut_in_repair k p c true true t h = absurd (omega arith)
-cut_in_repair k p c true false t h = let low : c < k.price = omega arith in rw (lt-ltb c k.price low) (cut_in_a k p c low)
-cut_in_repair k p c false true t h = let low : c < k.price = omega arith in rw (lt-ltb c k.price low) (cut_in_c k p c low)
+cut_in_repair k p c true false t h = let low : c < k.price = omega arith in rw (lt-ltb c k.price low) (cut_in_cell k p c low A)
+cut_in_repair k p c false true t h = let low : c < k.price = omega arith in rw (lt-ltb c k.price low) (cut_in_cell k p c low C)
 cut_in_repair k p c false false t h =
     ⊎_elim
-    (λ low. rw (lt-ltb c k.price low) (cut_in_b k p c low))
-    (λ past. let low : c - k.price < k.price = omega arith in rw (le-ltb c k.price past, lt-ltb (c - k.price) k.price low) (cut_in_c k p (c - k.price) low))
+    (λ low. rw (lt-ltb c k.price low) (cut_in_cell k p c low B))
+    (λ past. let low : c - k.price < k.price = omega arith in rw (le-ltb c k.price past, lt-ltb (c - k.price) k.price low) (cut_in_cell k p (c - k.price) low C))
     (cases_lt c k.price)
 
 -- a repair makes two stores at most
@@ -116,10 +129,6 @@ repair_cost k true true t = omega arith
 repair_cost k true false t = omega arith
 repair_cost k false true t = omega arith
 repair_cost k false false t = omega arith
-
--- what a cut below carries, told one layer up
-abbrev one_up : Cut → Cut
-one_up cut = record { place = cut.place; layers = cut.layers + 1 }
 
 module _ (b : Value) (lit : Bool) (doubt : Option Doubt) (t : ThreeLawful b lit doubt) where
   carried_up : (cut : Cut) → CutInRelight b cut → CutInRelight (three_value b lit doubt) (one_up cut)
@@ -140,20 +149,6 @@ module _ (b : Value) (lit : Bool) (doubt : Option Doubt) (t : ThreeLawful b lit 
 
 -- The memory below is cut again: what is in doubt above stays so.
 module _ (b after : Value) (limits : Limits b) (lit : Bool) (doubt : Option Doubt) (t : ThreeLawful b lit doubt) (charge : ℕ) (cut : Cut) (again : CutAgain b charge cut after) (long : length after.words ≡ length b.words) (words : settled doubt (words_of after.words) ≡ settled doubt (words_of b.words)) where
-  doubt_before : (e : Doubt) → after.doubt ≡ Some e → b.doubt ≡ Some e
-  doubt_before e is = ⊎_elim (λ (s : (after.doubt ≡ None) × MayHold b after.words). let none = s.0 in let z : ◌≡◌ {A = ℕ} 0 1 = cc in absurd (omega arith)) (λ (s : (after.doubt ≡ b.doubt) × (after.words ≡ b.words)). sym s.0 ∙ is) again.no_more
-
-  again_lawful : ThreeLawful after false doubt
-  again_lawful = record {
-    cheap = subst (λ (k : Kind). k.price ≤ 3) (sym again.kind) t.cheap;
-    low = subst (λ (k : Kind). k.dues ≤ 2) (sym again.kind) t.low;
-    sure = λ e. absurd (false≢true e);
-    lit_below = λ e. absurd (false≢true e);
-    doubt_inside = λ d e. subst (λ n. d.place < n / 3) (sym long) (t.doubt_inside d e);
-    cell_inside = λ e is. t.cell_inside e (doubt_before e is);
-    sound = λ found m k h. t.sound found (may_before b after again.kind again.no_more found m) k (subst (λ n. k < n / 3) long h);
-  }
-
   again_above : CutAgain (three_value b lit doubt) charge (one_up cut) (three_value after false doubt)
   again_above = record {
     low = omega (arith, again.low);
@@ -166,36 +161,27 @@ module _ (b after : Value) (limits : Limits b) (lit : Bool) (doubt : Option Doub
 
   pub cut_below : (f : Fault) → f ≡ fault.Cut cut → (r : Result (Unit {0}) Raised) → r ≡ raised (Err f) → RelitAbove b lit doubt charge r after
   cut_below f is r answer =
-      let few : b.kind.layers ≤ 254 = omega (arith, limits.layers_few, limits.price_high) in
-      let told : r ≡ Err (record { 0 = fault.Cut (one_up cut) }) = answer ∙ ap (λ (e : Fault). raised (Err e)) is ∙ ap (λ (e : Fault). Err (record { 0 = e })) (raise_cut cut (layers_up b lit doubt t cut few again.carries)) in
-      rw told (again_lawful, (one_up cut, refl, again_above))
+      let told : r ≡ Err (record { 0 = fault.Cut (one_up cut) }) = answer ∙ raised_cut (Err f) cut (ap Err is) (layers_up b lit doubt t cut (layers_counted b limits) again.carries) in
+      rw told (lawful_after b after lit doubt t again.kind long again.no_more false (λ e. absurd (false≢true e)) (λ e. absurd (false≢true e)), (one_up cut, refl, again_above))
 
 -- Nothing is in doubt: nothing is mended.
 module _ (b : Value) (limits : Limits b) (lit : Bool) (t : ThreeLawful b lit None) (charge : ℕ) where
   sure_below : (doubt : Option Doubt) → b.doubt ≡ doubt → doubt ≡ None
   sure_below None e = refl
-  sure_below (Some e) is = let d = t.cell_inside e is in let none = d.1 in let z : ◌≡◌ {A = ℕ} 0 1 = cc in absurd (omega arith)
+  sure_below (Some e) is = let d = t.cell_inside e is in let none = d.1 in cc
 
   held_all : (found : List ℕ) → MayHold b found → found ≡ b.words
-  held_all found m = subst (λ (d : Option Doubt). MayHoldIn b.kind.whole d b.words found) (sure_below b.doubt refl) m
+  held_all found m = held_sure b found (sure_below b.doubt refl) m
 
   pub sure_cut : (f : Fault) (after : Value) → Relights b charge (Err f) after → (r : Result (Unit {0}) Raised) → r ≡ raised (Err f) → RelitAbove b lit None charge r after
   sure_cut f after e r answer =
-      let same : after.words ≡ b.words = ⊎_elim (λ (s : (after.doubt ≡ None) × MayHold b after.words). held_all after.words s.1) (λ (s : (after.doubt ≡ b.doubt) × (after.words ≡ b.words)). s.1) e.2.no_more in
+      let same = still_held b after (λ (ws : List ℕ). ws ≡ b.words) refl held_all e.2.no_more in
       cut_below b after limits lit None t charge e.0 e.2 (ap length same) (ap words_of same) f e.1 r answer
 
   sure_relit : (after : Value) → Relit b charge after → RelitAbove b lit None charge (Ok tt) after
   sure_relit after e =
       let same = held_all after.words e.found in (
-        record {
-          cheap = subst (λ (k : Kind). k.price ≤ 3) (sym e.kind) t.cheap;
-          low = subst (λ (k : Kind). k.dues ≤ 2) (sym e.kind) t.low;
-          sure = λ _. refl;
-          lit_below = λ _. e.lit;
-          doubt_inside = λ d is. let z : ◌≡◌ {A = ℕ} 0 1 = cc in absurd (omega arith);
-          cell_inside = λ d is. let none = e.sure in let z : ◌≡◌ {A = ℕ} 0 1 = cc in absurd (omega arith);
-          sound = λ found m k h. t.sound found (subst (MayHold b) (sym (subst (λ (d : Option Doubt). MayHoldIn after.kind.whole d after.words found) e.sure m)) e.found) k (subst (λ (ws : List ℕ). k < length ws / 3) same h);
-        },
+        lawful_after b after lit None t e.kind (ap length same) (inl (e.sure, e.found)) true (λ _. refl) (λ _. e.lit),
         record {
           lit = refl;
           sure = refl;
@@ -230,7 +216,7 @@ module _ (b : Value) (limits : Limits b) (lit : Bool) (d : Doubt) (t : ThreeLawf
 
   pub doubt_cut : (f : Fault) (after : Value) → Relights b charge (Err f) after → (r : Result (Unit {0}) Raised) → r ≡ raised (Err f) → RelitAbove b lit (Some d) charge r after
   doubt_cut f after e r answer =
-      let same : SameBut p b.words after.words = ⊎_elim (λ (s : (after.doubt ≡ None) × MayHold b after.words). held_same after.words s.1) (λ (s : (after.doubt ≡ b.doubt) × (after.words ≡ b.words)). subst (SameBut p b.words) (sym s.1) (same_self p b.words)) e.2.no_more in
+      let same = still_held b after (SameBut p b.words) (same_self p b.words) held_same e.2.no_more in
       cut_below b after limits lit (Some d) t charge e.0 e.2 same.long (words_set p b.words after.words same d.old) f e.1 r answer
 
   -- the memory below is lit again
@@ -279,7 +265,7 @@ module _ (b : Value) (limits : Limits b) (lit : Bool) (d : Doubt) (t : ThreeLawf
     cells_then = triple_puts ss words p (let h = in_lit in omega arith)
 
     equal_then : Equal (triple_at mended_words p)
-    equal_then = subst (Equal {T = ℕ}) (sym cells_then) (mends_equal eqb (λ x y. eqb-true x y) cells)
+    equal_then = subst (Equal {T = ℕ}) (sym cells_then) (mends_equal eqb eqb-true cells)
 
     abbrev word : ℕ
     word = reads eqb cells
@@ -287,8 +273,8 @@ module _ (b : Value) (limits : Limits b) (lit : Bool) (d : Doubt) (t : ThreeLawf
     word_then : word_of mended_words p ≡ word
     word_then =
         ap (reads eqb) cells_then
-        ∙ reads_same (puts cells ss) (mends_equal eqb (λ x y. eqb-true x y) cells).1
-        ∙ mends_kept eqb (λ x y. eqb-true x y) cells
+        ∙ reads_same (puts cells ss) (mends_equal eqb eqb-true cells).1
+        ∙ mends_kept eqb eqb-true cells
 
     same_then_b : SameBut p b.words mended_words
     same_then_b = same_then p b.words words mended_words same_lit (same_sets ss words p)
@@ -299,7 +285,7 @@ module _ (b : Value) (limits : Limits b) (lit : Bool) (d : Doubt) (t : ThreeLawf
       sure = refl;
       found = (
         word,
-        reads_either eqb (λ x y. eqb-true x y) (λ x y. eqb-false x y) d.old d.new cells under,
+        reads_either eqb eqb-true eqb-false d.old d.new cells under,
         words_new p b.words mended_words same_then_b word inside word_then ∙ sym (set-set (words_of b.words) p d.old word),
       );
       kind = refl;
@@ -330,8 +316,7 @@ module _ (b : Value) (limits : Limits b) (lit : Bool) (d : Doubt) (t : ThreeLawf
     pub doubt_done : (r : Result (Unit {0}) Raised) (after : Value) → Follows (mended_below l (thirds words)) r after → RelitAbove b lit (Some d) charge r after
     doubt_done r after f =
         let h = in_lit in
-        let few : b.kind.layers ≤ 254 = omega (arith, limits.layers_few, limits.price_high) in
-        let made = ran d.old d.new b.kind p ss words l.charge (omega arith) (safe_mends eqb (λ x y. eqb-true x y) (λ x y. eqb-false x y) d.old d.new cells under) in
+        let made = ran d.old d.new b.kind p ss words l.charge (omega arith) (safe_mends eqb eqb-true eqb-false d.old d.new cells under) in
         let off : o.answer ≡ Ok tt → (k : ℕ) → k ≢ p → triple_at o.value.words k ≡ triple_at words k = λ ok k ne.
         ⊎_elim
         (λ done. ap (λ (x : Outcome). triple_at x.value.words k) done.1 ∙ (same_sets ss words p).off k ne)
@@ -351,7 +336,7 @@ module _ (b : Value) (limits : Limits b) (lit : Bool) (d : Doubt) (t : ThreeLawf
         let left : after ≡ lit_value mended_words (l.charge - cost b.kind ss) b.kind = value ∙ ap (λ (x : Outcome). x.value) done.1 in
         rw (answered, left) (stored_lawful b.kind t.cheap t.low p words equal_off ss equal_then (l.charge - cost b.kind ss), done_above (l.charge - cost b.kind ss) (omega arith) (omega arith)))
         (λ c.
-        let answered : r ≡ Err (record { 0 = fault.Cut (one_up (told c)) }) = answer ∙ ap raised c.answer ∙ ap (λ (x : Fault). Err (record { 0 = x })) (raise_cut (told c) few) in
+        let answered : r ≡ Err (record { 0 = fault.Cut (one_up (told c)) }) = answer ∙ raised_cut o.answer (told c) c.answer (layers_counted b limits) in
         rw (answered, value) (torn_lawful b.kind t.cheap t.low p words equal_off ss d.old d.new l.charge o in_lit c, (one_up (told c), refl, torn_above c)))
         made
 

@@ -3,13 +3,13 @@ use Rattle.std.proofs.Common.{◌≡◌, ℕ, zero, suc, ◌+◌, ◌<◌, ◌�
 use Rattle.std.proofs.lemmas.Bool.{cases_eq, eqb-true, false≢true}
 use Rattle.memory.specs.declared.doubt.Doubt.{Doubt}
 use Rattle.memory.specs.declared.fault.Unmade.{Unmade}
-use Rattle.memory.specs.Value.{Limits, MayHold, MayHoldIn, Value}
+use Rattle.memory.specs.Value.{Limits, MayHold, Value}
 use Rattle.cells.specs.Triple.{Equal, To, mends}
 use Rattle.cells.specs.Cells.{thirds, triple_at}
 use Rattle.cells.specs.Three.{MadeAbove, SoundAt, ThreeLawful, between, doubt_at, judged, one_of, unequal}
 use Rattle.cells.specs.Laws.{puts}
 use Rattle.cells.proofs.Triples.{mends_equal}
-use Rattle.cells.proofs.Writing.{sure_none}
+use Rattle.cells.proofs.Writing.{held_sure, sure_none}
 
 -- one more in doubt, or none
 abbrev with_next : Option Doubt → List Doubt → List Doubt
@@ -20,7 +20,7 @@ joined found None [] e = let z : found ≡ None = cc in rw z refl
 joined found (Some n) [] e = let z : found ≡ None = cc in rw z refl
 joined found None (d ∷ []) e = let z : found ≡ Some d = cc in rw z refl
 joined found (Some n) (d ∷ []) e = let z : found ≡ Some d = cc in rw z refl
-joined found next (d ∷ c ∷ rest) e = let z : ◌≡◌ {A = ℕ} 0 1 = cc in absurd (omega arith)
+joined found next (d ∷ c ∷ rest) e = cc
 
 module _ (words : List ℕ) where
   pub one_more : (n : ℕ) (found : Option Doubt) → Ok found ≡ judged (unequal words n) → one_of found (doubt_at words n) ≡ judged (unequal words (n + 1))
@@ -29,8 +29,8 @@ module _ (words : List ℕ) where
   -- two are too many, however many follow
   too_many : (next : Option Doubt) (ds : List Doubt) (why : Unmade) → judged ds ≡ Err why → judged (with_next next ds) ≡ Err why
   too_many None ds why e = e
-  too_many (Some n) [] why e = let z : ◌≡◌ {A = ℕ} 0 1 = cc in absurd (omega arith)
-  too_many (Some n) (d ∷ []) why e = let z : ◌≡◌ {A = ℕ} 0 1 = cc in absurd (omega arith)
+  too_many (Some n) [] why e = cc
+  too_many (Some n) (d ∷ []) why e = cc
   too_many (Some n) (d ∷ c ∷ rest) why e = e
 
   pub still_too_many : (n m : ℕ) (why : Unmade) → judged (unequal words n) ≡ Err why → n ≤ m → judged (unequal words m) ≡ Err why
@@ -52,11 +52,11 @@ module _ (words : List ℕ) where
   in_doubt k ss = elim ss [ [] ↦ None | s ∷ rest ↦ Some (between words k) ]
 
   equal_none : (k : ℕ) (ss : List (To ℕ)) → mends eqb (triple_at words k) ≡ ss → in_doubt k ss ≡ None → Equal (triple_at words k)
-  equal_none k [] is e = subst (λ (x : List (To ℕ)). Equal (puts (triple_at words k) x)) is (mends_equal eqb (λ x y. eqb-true x y) (triple_at words k))
-  equal_none k (s ∷ rest) is e = let z : ◌≡◌ {A = ℕ} 0 1 = cc in absurd (omega arith)
+  equal_none k [] is e = subst (λ (x : List (To ℕ)). Equal (puts (triple_at words k) x)) is (mends_equal eqb eqb-true (triple_at words k))
+  equal_none k (s ∷ rest) is e = cc
 
   some-between : (k : ℕ) (d : Doubt) (ss : List (To ℕ)) → in_doubt k ss ≡ Some d → d ≡ between words k
-  some-between k d [] e = let z : ◌≡◌ {A = ℕ} 0 1 = cc in absurd (omega arith)
+  some-between k d [] e = cc
   some-between k d (s ∷ rest) e = cc
 
   below_suc : (n k : ℕ) → k < suc n → k ≢ n → k < n
@@ -82,10 +82,10 @@ module _ (words : List ℕ) where
 -- A memory made over such words keeps what a three-cell memory has to.
 module _ (b : Value) (limits : Limits b) (lit : b.lit ≡ true) (cheap : b.kind.price ≤ 3) (low : b.kind.dues ≤ 2) where
   held : (found : List ℕ) → MayHold b found → found ≡ b.words
-  held found m = subst (λ (d : Option Doubt). MayHoldIn b.kind.whole d b.words found) (sure_none b.doubt (limits.sure_when_lit lit)) m
+  held found m = held_sure b found (sure_none b.doubt (limits.sure_when_lit lit)) m
 
   nothing_below : (e : Doubt) → b.doubt ≡ Some e → ⊥
-  nothing_below e is = let none = sure_none b.doubt (limits.sure_when_lit lit) in let z : ◌≡◌ {A = ℕ} 0 1 = cc in omega arith
+  nothing_below e is = let none = sure_none b.doubt (limits.sure_when_lit lit) in cc
 
   made_by : (doubt : Option Doubt) (ds : List Doubt) → Ok doubt ≡ judged ds → Scanned b.words (thirds b.words) ds → ThreeLawful b (not (is_some doubt)) doubt
   made_by doubt [] e s =
@@ -95,7 +95,7 @@ module _ (b : Value) (limits : Limits b) (lit : b.lit ≡ true) (cheap : b.kind.
         low = low;
         sure = λ _. refl;
         lit_below = λ _. lit;
-        doubt_inside = λ d is. let y : ◌≡◌ {A = ℕ} 0 1 = cc in absurd (omega arith);
+        doubt_inside = λ d is. cc;
         cell_inside = λ x is. absurd (nothing_below x is);
         sound = λ found m k h. subst (λ (ws : List ℕ). Equal (triple_at ws k)) (sym (held found m)) (s k h);
       })
@@ -114,7 +114,7 @@ module _ (b : Value) (limits : Limits b) (lit : b.lit ≡ true) (cheap : b.kind.
               λ ne. s.2 k h ne,
             );
       })
-  made_by doubt (d ∷ c ∷ rest) e s = let z : ◌≡◌ {A = ℕ} 0 1 = cc in absurd (omega arith)
+  made_by doubt (d ∷ c ∷ rest) e s = cc
 
   made_lawful : (doubt : Option Doubt) → Ok doubt ≡ judged (unequal b.words (thirds b.words)) → ThreeLawful b (not (is_some doubt)) doubt
   made_lawful doubt e = made_by doubt (unequal b.words (thirds b.words)) e (scanned b.words (thirds b.words))

@@ -7,18 +7,17 @@ use Rattle.memory.specs.declared.fault.Cut.{Cut}
 use Rattle.memory.specs.declared.fault.Fault.{Fault}
 use Rattle.memory.specs.declared.fault.Fault.TheVariants as fault
 use Rattle.memory.specs.declared.fault.Raised.{Raised}
-use Rattle.memory.specs.Faults.{raise}
-use Rattle.memory.specs.Value.{Kind, Value, cut_at, cut_short, stored}
+use Rattle.memory.specs.Value.{Kind, Limits, MayHold, MayHoldIn, Value, cut_at, cut_short, stored}
 use Rattle.cells.specs.declared.triple.Triple.{Triple}
 use Rattle.cells.specs.Triple.{Equal, reads, to_all}
-use Rattle.cells.specs.Cells.{Outcome, lowest_of, stored_to, thirds, triple_at, words_of}
+use Rattle.cells.specs.Cells.{Outcome, stored_to, thirds, triple_at, words_of}
 use Rattle.cells.specs.Three.{Follows, StoredAbove, ThreeLawful, raised, three_kind, three_value}
 use Rattle.cells.specs.Laws.{ThreeStoresAreOne}
 use Rattle.cells.specs.Members.{length_words}
 use Rattle.cells.proofs.Triples.{safe_all}
 use Rattle.cells.proofs.CellLists.{get_or_words, same_sets, sets, triple_puts, words_new, words_set}
 use Rattle.cells.proofs.Lawful.{stored_lawful, torn_lawful}
-use Rattle.cells.proofs.Stores.{Torn, cells_of, lit_is, lit_value, ran}
+use Rattle.cells.proofs.Stores.{Torn, lit_is, lit_value, ran}
 
 -- cells of which the last two are equal read as these
 pub reads_same : (t : Triple ℕ) → t.b ≡ t.c → reads eqb t ≡ t.b
@@ -29,9 +28,20 @@ pub sure_none : (doubt : Option Doubt) → is_some doubt ≡ false → doubt ≡
 sure_none None s = refl
 sure_none (Some d) s = absurd (true≢false s)
 
--- one layer more is counted
-pub raise_cut : (c : Cut) → c.layers ≤ 254 → raise (fault.Cut c) ≡ fault.Cut (record { place = c.place; layers = c.layers + 1 })
-raise_cut c h = ap (λ n. fault.Cut (record { place = c.place; layers = n })) (omega arith)
+-- so what is found are the words
+pub held_sure : (v : Value) (found : List ℕ) → v.doubt ≡ None → MayHold v found → found ≡ v.words
+held_sure v found sure m = subst (λ (d : Option Doubt). MayHoldIn v.kind.whole d v.words found) sure m
+
+-- one layer more can be counted
+pub layers_counted : (v : Value) → Limits v → v.kind.layers ≤ 254
+layers_counted v limits = omega (arith, limits.layers_few, limits.price_high)
+
+-- a cut below, told one layer up
+abbrev pub one_up : Cut → Cut
+one_up cut = record { place = cut.place; layers = cut.layers + 1 }
+
+pub raised_cut : (answer : Result (Unit {0}) Fault) (c : Cut) → answer ≡ Err (fault.Cut c) → c.layers ≤ 254 → raised answer ≡ Err (record { 0 = fault.Cut (one_up c) })
+raised_cut answer c is h = ap raised is ∙ ap (λ n. Err (record { 0 = fault.Cut (record { place = c.place; layers = n }) })) (omega arith)
 
 module _ (words : List ℕ) (charge : ℕ) (kind : Kind) (few : kind.layers ≤ 254) (t : ThreeLawful (lit_value words charge kind) true None) (p w : ℕ) (within : p < length words / 3) where
   abbrev below : Value
@@ -83,7 +93,7 @@ module _ (words : List ℕ) (charge : ℕ) (kind : Kind) (few : kind.layers ≤ 
   cut : (o : Outcome) → Torn old w kind p words charge (to_all w) o → (r : Result (Unit {0}) Raised) (after : Value) → Follows o r after → StoredAbove below p w r after
   cut o c r after f =
       let low : charge < 3 * kind.price = omega (arith, c.short) in
-      let answered : r ≡ Err (record { 0 = fault.Cut (cut_at (three_kind kind) charge p) }) = f.answer ∙ ap raised c.answer ∙ ap (λ (e : Fault). Err (record { 0 = e })) (raise_cut (record { place = lowest_of kind charge p (cells_of (to_all w)); layers = kind.layers }) few) in
+      let answered : r ≡ Err (record { 0 = fault.Cut (cut_at (three_kind kind) charge p) }) = f.answer ∙ raised_cut o.answer _ c.answer few in
       let words_are : set (words_of o.value.words) p old ≡ words_of words = words_set p words o.value.words c.same old ∙ set-get_or (words_of words) p 0 in
       let kind_is = c.kind_kept in
       let same : three_value o.value false (Some doubt) ≡ cut_short above p w = cc in
@@ -108,6 +118,5 @@ stored_above b limits t p w within r after f =
     let lit = t.lit_below refl in
     let sure = sure_none b.doubt (limits.sure_when_lit lit) in
     let is = lit_is b lit sure in
-    let few : b.kind.layers ≤ 254 = omega (arith, limits.layers_few, limits.price_high) in
     subst (λ (v : Value). StoredAbove v p w r after) (sym is)
-    (stored_lit b.words b.charge b.kind few (subst (λ (v : Value). ThreeLawful v true None) is t) p w within r after (subst (λ (v : Value). Follows (stored_to v p (to_all w)) r after) is f))
+    (stored_lit b.words b.charge b.kind (layers_counted b limits) (subst (λ (v : Value). ThreeLawful v true None) is t) p w within r after (subst (λ (v : Value). Follows (stored_to v p (to_all w)) r after) is f))

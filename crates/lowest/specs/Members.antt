@@ -16,7 +16,7 @@ pub left_in_image_allowed : (scrap old new : ℕ) → scrap < 2 ^ 16 → Allowed
 left_in_image_allowed scrap old new fits = fits
 
 inside : (leaves : ℕ → ℕ → ℕ → ℕ) (held : List ℕ) (scrap : ℕ) (doubt : Option Doubt) → Stands leaves held scrap doubt → DoubtBelow (length held) doubt
-inside leaves held scrap None s d e = let z : ◌≡◌ {A = ℕ} 0 1 = cc in absurd (omega arith)
+inside leaves held scrap None s d e = cc
 inside leaves held scrap (Some x) s d e = let p : x.place ≡ d.place = cc in let q = s.0 in omega arith
 
 pub lowest_limits : (leaves : ℕ → ℕ → ℕ → ℕ) (whole : Bool) (buffer : ℕ) (held : List ℕ) (charge : ℕ) (lit : Bool) (scrap : ℕ) (doubt : Option Doubt) → LowestLawful leaves held charge lit scrap doubt → Limits (lowest_value (lowest_kind whole buffer) held charge lit doubt)
