@@ -8,7 +8,7 @@ use memory::doubt::Doubt;
 use memory::fault::{Fault, Raised};
 use memory::interface::Memory;
 
-// The place of a word, of which the memory below can have the cells.
+// The place of a word whose three cells lie at places that a memory can have.
 #[derive(Clone, Copy)]
 pub(crate) struct Site {
     pub(crate) place: u16,
