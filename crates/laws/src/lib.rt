@@ -12,16 +12,19 @@ pub fn takes_a_path_stands()
 {}
 
 // A path has no more statements than its task.
+#[tactic(auto, using(crate::proofs::Paths::paths_short))]
 pub fn paths_short_stands()
     ensures { PathsShort }
 {}
 
 // Every path of a well-formed task ends in an ending, and has no other.
+#[tactic(auto, using(crate::proofs::Endings::ends_once_stands))]
 pub fn ends_once_stands()
     ensures { EndsOnce }
 {}
 
 // A run adds to the record one word for each emit on its path.
+#[tactic(auto, using(crate::proofs::Kept::emits_counted))]
 pub fn emits_counted_stands()
     ensures { EmitsCounted }
 {}
@@ -32,11 +35,13 @@ pub fn keeps_unwritten_stands()
 {}
 
 // The write-after-read rule logs exactly the variables that its test finds.
+#[tactic(auto, using(crate::proofs::Paths::logged_tested))]
 pub fn logged_tested_stands()
     ensures { LoggedTested }
 {}
 
 // A variable that a path writes and that is not logged is not read on that path before it is written.
+#[tactic(auto, using(crate::proofs::Paths::unlogged_unread))]
 pub fn unlogged_unread_stands()
     ensures { UnloggedUnread }
 {}
@@ -52,16 +57,19 @@ pub fn ends_again_stands()
 {}
 
 // A statement on working copies and memory does to what it sees what it does to a run.
+#[tactic(auto, using(crate::proofs::Views::views_step))]
 pub fn views_step_stands()
     ensures { ViewsStep }
 {}
 
 // So does a whole task.
+#[tactic(auto, using(crate::proofs::Views::views_run))]
 pub fn views_run_stands()
     ensures { ViewsRun }
 {}
 
 // What runs, paths and the write-after-read rule come to on examples.
+#[tactic(auto, using(crate::proofs::Examples::examples_hold))]
 pub fn examples_hold()
     ensures { ExamplesHold }
 {}

@@ -2,6 +2,8 @@
 ghost use Rattle.std.specs.Prelude.{◌≡◌};
 ghost use Rattle.memory.specs.Faults.{raise, told, unmade_number};
 
+use thiserror::Error;
+
 // Power failed at a place of the lowest memory (65,535 for that memory's own relight), which has `layers` memories above it up to the one that was called.
 #[derive(Clone, Copy, PartialEq, Eq, Debug)]
 pub struct Cut {
@@ -9,10 +11,13 @@ pub struct Cut {
     pub layers: u8,
 }
 
-#[derive(Clone, Copy, PartialEq, Eq, Debug)]
+#[derive(Clone, Copy, PartialEq, Eq, Debug, Error)]
 pub enum Fault {
+    #[error("the memory is dark")]
     Dark,
+    #[error("the place is not below the length")]
     Outside,
+    #[error("power failed at place {} of the lowest memory, {} layers below", .0.place, .0.layers)]
     Cut(Cut),
 }
 
@@ -65,15 +70,15 @@ impl From<Raised> for Fault {
 }
 
 // Why no memory was made.
-#[derive(Clone, Copy, PartialEq, Eq, Debug)]
+#[derive(Clone, Copy, PartialEq, Eq, Debug, Error)]
 pub enum Unmade {
-    // above 32,768 words, or part of a word over
+    #[error("above 32,768 words, or part of a word over")]
     Size,
-    // the memory below has a price above 3, or dues above 2
+    #[error("the memory below has a price above 3, or dues above 2")]
     Dear,
-    // the memory below is dark
+    #[error("the memory below is dark")]
     Dark,
-    // more than one word has cells that are not equal
+    #[error("more than one word has cells that are not equal")]
     Unequal,
 }
 

@@ -28,6 +28,7 @@ impl Light {
             Light::Dark(doubt) => doubt,
         }
     }
+
     // Whether a place of so many can be read and written, or why not.
     pub fn reach(self, place: u16, count: usize) -> Result<(), Fault>
         ensures { result ≡ reached (is_lit self) place count }

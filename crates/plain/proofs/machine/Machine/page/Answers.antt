@@ -1,12 +1,9 @@
 -- `Machine::page`: what the search leaves to show.
-use Rattle.std.proofs.Common.{◌≡◌, length, refl, ◌∙◌, arith, ext_get_or}
+use Rattle.std.proofs.Common.{◌≡◌, length, ◌∙◌, arith, ext_get_or}
 use Rattle.plain.specs.Plain.{page}
 use Rattle.plain.specs.Machines.{plain_of}
 use Rattle.plain.proofs.Pages.{page-length}
 use Rattle.plain.proofs.machine.Machine.page.Goals as goal
-
-pub returns-then-buffer-len : goal.returns-then-buffer-len
-returns-then-buffer-len c = let long = page-length (plain_of c.args.self.now) in (λ e. c.if-buffer-len.true (omega (arith, c.len.ensures.value)), refl)
 
 pub returns : goal.returns
 returns c =

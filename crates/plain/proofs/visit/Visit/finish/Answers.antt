@@ -4,9 +4,6 @@ use Rattle.plain.specs.Steps.{standing}
 use Rattle.plain.proofs.Visits.{goes, stops}
 use Rattle.plain.proofs.visit.Visit.finish.Goals as goal
 
-pub loop-smaller : goal.loop-smaller
-loop-smaller c = (goes (standing c.loop.self) (standing c.step.new.self) c.step.ensures.after c.step.result c.step.ensures.answer (sym c.loop-test.ensures)).1
-
 pub loop-preserved : goal.loop-preserved
 loop-preserved c =
     (goes (standing c.loop.self) (standing c.step.new.self) c.step.ensures.after c.step.result c.step.ensures.answer (sym c.loop-test.ensures)).0

@@ -1,13 +1,11 @@
 -- `Draft::open`: what the search leaves to show.
-use Rattle.std.proofs.Common.{ℕ, [], ◌∷◌, ◌++◌, ◌≡◌, length, map, sym, ap, subst, List, ◌∙◌, arith}
-use Rattle.std.proofs.lemmas.List.{map_push}
+use Rattle.std.proofs.Common.{ℕ, [], ◌∷◌, ◌++◌, ◌≡◌, length, sym, ap, subst, List, ◌∙◌, arith}
 use Rattle.words.proofs.Kept.{pushed_room}
 use Rattle.words.specs.Lists.{items}
 use Rattle.program.specs.declared.span.Span.{Span}
-use Rattle.program.specs.Spans.{LieBehind, part}
-use Rattle.program.specs.Drafts.{source_of}
+use Rattle.program.specs.Spans.{LieBehind}
 use Rattle.program.proofs.Spans.{opened}
-use Rattle.program.proofs.Drafts.{tasks_count, total_count, with_tasks}
+use Rattle.program.proofs.Drafts.{tasks_count, total_count}
 use Rattle.program.proofs.draft.Draft.open.Goals as goal
 
 abbrev empty_at : ℕ → Span
@@ -29,9 +27,3 @@ invariant_of-self c =
       few = d.few;
       laid = subst (λ (xs : List Span). LieBehind 0 xs (length (items d.statements))) (sym (one_more c)) (opened 0 (length (items d.statements)) (items d.spans) d.laid);
     }
-
-pub returns : goal.returns
-returns c =
-    let d = c.args.self.now in
-    ap (λ xs. with_tasks (source_of d) (map (part (items d.statements)) xs)) (one_more c.before)
-    ∙ ap (with_tasks (source_of d)) (map_push (part (items d.statements)) (items d.spans) (empty_at (length (items d.statements))))

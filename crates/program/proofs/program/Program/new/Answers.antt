@@ -4,9 +4,6 @@ use Rattle.program.proofs.Drafts.{tasks_count}
 use Rattle.program.proofs.Programs.{all_checked}
 use Rattle.program.proofs.program.Program.new.Goals as goal
 
-pub task_sound-requires : goal.task_sound-requires
-task_sound-requires c = let many = tasks_count c.args.draft in omega arith
-
 pub invariant_of-result : goal.invariant_of-result
 invariant_of-result c =
     let many = tasks_count c.args.draft in
