@@ -9,11 +9,11 @@ import re
 import sys
 
 LINES = {
-    # a flag in a struct; an enum of two variants of which one holds nothing; a number for a kind or a refusal
+    # a flag in a struct; a number for a kind or a refusal, or that stands for nothing; a result taken apart by hand
     "1": [
         r"^\s*(pub(\(\w+\))? )?\w+: bool,",
-        r"-> u8$|Result<[^<>]*(<[^<>]*>)?[^<>]*, u8>|: u8,\s*//",
-        r"return Err\((anyhow!|Fail::new|Flaw::NoTask)|Err\(_\) =>",
+        r"fn \w+(<T>)?\(\) -> u8|fn number\(self\)|Result<.*, u8>",
+        r"let (Ok|Some|Err)\(.*\belse \{|Err\(_\) =>",
     ],
     # a loop over numbers, or by a condition
     "3": [r"\bfor \w+ in [^{]*\.\.", r"\bwhile\b", r"\bloop \{"],

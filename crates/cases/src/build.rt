@@ -8,7 +8,7 @@ use program::statement::{
     Comparison, Index, Operand, Operator, Reach, Statement, Target, Test, Variable,
 };
 
-// The thing with a number that its kind has.
+// The thing with a number that its kind has. Beside `reach`, since the two take different numbers.
 pub(crate) fn index<const N: u8>(number: u8) -> Index<N>
     requires { number < N }
 {

@@ -22,6 +22,7 @@ pub enum Fault {
 }
 
 impl Fault {
+    // The number by which the rules tell it.
     pub fn number(self) -> u8
         ensures { result ≡ (told self).number }
     {
@@ -83,6 +84,7 @@ pub enum Unmade {
 }
 
 impl Unmade {
+    // The number by which the rules tell it.
     pub fn number(self) -> u8
         ensures { result ≡ unmade_number self }
     {

@@ -41,7 +41,7 @@ pub trait Memory {
         ensures wrote { lawful self.old → lawful self.new × Wrote (seen self.old) place word result (seen self.new) }
         ensures scrap { (s : ℕ) → given self.old s → given self.new s };
 
-    // Brings power back and settles what is in doubt, or is cut.
+    // Brings power back and settles what is in doubt, or is cut. Charge and scrap are two arguments, as the rules name them.
     fn relight(&mut self, charge: u32, scrap: u16) -> Result<(), Fault>
         ensures relit { lawful self.old → lawful self.new × Relights (seen self.old) charge result (seen self.new) }
         ensures scrap { given self.new scrap };

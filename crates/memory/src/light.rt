@@ -5,7 +5,8 @@ ghost use Rattle.memory.specs.Light.{doubt_of, is_lit, reached};
 use crate::doubt::Doubt;
 use crate::fault::Fault;
 
-// Lit, with nothing in doubt; or dark, with the place in doubt if there is one.
+// Lit, with nothing in doubt; or dark, with the place in doubt if there is one. No `Option<Option<Doubt>>`, which would not
+// say which of its two is lit.
 #[derive(Clone, Copy, PartialEq, Eq, Debug)]
 pub enum Light {
     Lit,

@@ -9,7 +9,8 @@ use std::process::Abort;
 use std::test::Fail;
 use three_cell::memories::ThreeCell;
 
-// The length of the memory over a buffer, or the number of the refusal, which hands back a buffer of the same size.
+// The length of the memory over a buffer, or the number of the refusal, which hands back a buffer of the same size. The
+// tests are about the numbers, as the rules have them.
 fn length<B: Backing + Drop, F: Fn(&B) -> usize>(
     rt: &impl Abort,
     backing: B,

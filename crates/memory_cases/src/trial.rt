@@ -42,7 +42,7 @@ pub(crate) struct Trial {
 #[derive(Clone, Copy, Debug)]
 pub(crate) struct Stood {
     pub(crate) word: u16,
-    // the first relight was cut
+    // the first relight was cut; the word counts either way
     pub(crate) cut_again: bool,
 }
 

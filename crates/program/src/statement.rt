@@ -131,7 +131,8 @@ pub enum Statement {
     },
 }
 
-// What comes at the next visit: a task, or nothing after a stop.
+// What comes at the next visit: a task, or nothing after a stop. No `Option<Task>`, whose `None` would not say that the
+// program has stopped and could not be told as a word by `From`.
 #[derive(Clone, Copy, PartialEq, Eq, Debug)]
 pub enum Next {
     Task(Task),

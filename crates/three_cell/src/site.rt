@@ -66,7 +66,8 @@ impl Site {
         }
     }
 
-    // Stores a word to B, then to C.
+    // Stores a word to B, then to C. That a store keeps the scrap is told by each call: it is a fact of the memory before
+    // and after, and no type has both.
     fn store_both<M: Memory>(self, below: &mut M, word: u16) -> Result<(), Raised>
         ensures stores { Stores M.Memory below.old self.place (to_both word) result below.new }
         ensures scrap { KeepsScrap M.Memory below.old below.new }

@@ -25,6 +25,7 @@ impl<'p> Machine<'p> {
         ensures { result ≡ slice_index (page (plain_of self.now)) place }
     {
         let emitted = self.last_record();
+        // The number's two words by hand: std splits a number into bytes alone, and four bytes joined in pairs are longer.
         match place {
             0 => (self.number % 65536) as u16,
             1 => (self.number / 65536) as u16,
