@@ -59,13 +59,6 @@ module _ (table : List Statement) where
 
 -- THE LAST SPAN, at place k
 module _ (z : Span) where
-  pub last_end : (a n : ℕ) (xs : List Span) (k : ℕ) → LieBehind a xs n → length xs ≡ suc k → (get_or xs k z).first + (get_or xs k z).size ≡ n
-  last_end a n [] k h l = absurd (omega arith)
-  last_end a n (x ∷ []) zero (e, small, more) l = omega arith
-  last_end a n (x ∷ []) (suc k) h l = absurd (omega arith)
-  last_end a n (x ∷ (y ∷ xs)) zero h l = absurd (omega arith)
-  last_end a n (x ∷ (y ∷ xs)) (suc k) (e, small, more) l = last_end (a + x.size) n (y ∷ xs) k more (omega arith)
-
   pub last_longer : (a n : ℕ) (xs : List Span) (k : ℕ) → LieBehind a xs n → length xs ≡ suc k → (get_or xs k z).size < 64 → LieBehind a (set xs k (longer (get_or xs k z))) (n + 1)
   last_longer a n [] k h l room = absurd (omega arith)
   last_longer a n (x ∷ []) zero (e, small, more) l room = (e, omega arith, omega arith)

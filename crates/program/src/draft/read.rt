@@ -7,6 +7,7 @@ ghost use Rattle.program.specs.Drafts.{source_of, last_task};
 
 use crate::check::Scope;
 use crate::draft::Draft;
+use crate::span::Span;
 use crate::statement::{Statement, Task};
 use words::list::Words;
 
@@ -41,13 +42,18 @@ impl Draft {
         self.firsts
     }
 
-    // The statements of a task.
+    // The statements of a task; one that is not there has none.
     fn statements(&self, task: u8) -> &[Statement]
-        requires { task < length (source_of self.now).tasks }
         ensures value { result.now ≡ task_of (source_of self.now) task }
         ensures bound { length result.now ≤ 64 }
     {
-        let span = self.spans.as_slice()[task as usize];
+        let none = Span { first: 0, size: 0 };
+        let span = self
+            .spans
+            .as_slice()
+            .get(task as usize)
+            .copied()
+            .unwrap_or(none);
         let first = span.first as usize;
         let table = self.statements.as_slice();
         &table[first..first + span.size as usize]
@@ -57,15 +63,11 @@ impl Draft {
     pub(crate) fn statement_at(&self, task: Task, place: usize) -> Option<Statement>
         ensures { result ≡ slice_get (task_of (source_of self.now) task.number) place }
     {
-        if task.number() >= self.tasks() {
-            return None;
-        }
         self.statements(task.number()).get(place).copied()
     }
 
     // Whether a task is well formed.
     pub(crate) fn task_sound(&self, task: u8) -> bool
-        requires { task < length (source_of self.now).tasks }
         ensures { result ≡ sound_at (source_of self.now) task }
     {
         let scope = Scope {
