@@ -40,7 +40,7 @@ fn index_numbers(rt: HostRuntime) {
 fn reaches(rt: HostRuntime) {
     for count in 0..=u8::MAX {
         match Reach::new(count) {
-            Some(reach) => assert!(rt; 1 <= count && count <= 15 && reach.count() == count),
+            Some(reach) => assert!(rt; (1..=15).contains(&count) && reach.count() == count),
             None => assert!(rt; count == 0 || 15 < count),
         }
     }

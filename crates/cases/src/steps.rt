@@ -9,7 +9,8 @@ use std::test::Fail;
 
 const ROW: [u16; 8] = [100, 0, 0, 0, 0, 0, 0, 0];
 
-// A statement's first word. It is no `Display`: a program has no names to print for what its statements read.
+// A statement's first word, by which the table names it. It is no `Display`: a program has no names to print for what its
+// statements read.
 fn keyword(statement: Statement) -> &'static str {
     match statement {
         Statement::Stop => "stop",

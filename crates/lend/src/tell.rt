@@ -31,7 +31,7 @@ impl fmt::Display for Named<Operand> {
 
 impl fmt::Display for Named<Target> {
     fn fmt<W: fmt::Write>(&self, f: &mut fmt::Formatter<W>) -> fmt::Result {
-        write!(f, "{}", Named(reader(self.0)))
+        write!(f, "{}", Named(Operand::from(self.0)))
     }
 }
 
@@ -86,14 +86,6 @@ impl fmt::Display for Named<Statement> {
     }
 }
 
-// The operand that reads what a set alters.
-fn reader(target: Target) -> Operand {
-    match target {
-        Target::Variable(variable) => Operand::Variable(variable),
-        Target::Local(local) => Operand::Local(local),
-    }
-}
-
 // The statement that comes at a visit, with what it reads and writes.
 #[derive(Clone, Copy)]
 pub(crate) struct Told<'a, 'p> {
@@ -125,7 +117,7 @@ impl fmt::Display for Told<'_, '_> {
                 write!(
                     f,
                     "writes {} to {}",
-                    after.value(reader(target)),
+                    after.value(target.into()),
                     Named(target)
                 )
             }

@@ -4,6 +4,7 @@ use words::list::Words;
 
 mod work;
 
+// No model as a run, for the reason at `Short`: a visit has a lifetime and holds a frame.
 #[derive(Clone, Copy)]
 pub struct Frame {
     pub inputs: [u16; 8],

@@ -27,6 +27,11 @@ value σ (Operand.Variable v) = slice_index σ.variables v.number
 value σ (Operand.Local l) = slice_index σ.locals l.number
 value σ (Operand.Input i) = slice_index σ.inputs i.number
 
+-- the operand that reads what a set alters
+abbrev pub reading : Target → Operand
+reading (Target.Variable v) = Operand.Variable v
+reading (Target.Local l) = Operand.Local l
+
 -- Sum and difference are modulo 65,536; a divisor 0 gives 0.
 abbrev pub result_of : Operator → ℕ → ℕ → ℕ
 result_of Operator.Plus a b = (a + b) % 65536

@@ -78,6 +78,7 @@ impl Scope {
     fn admits_all(&self, task: &[Statement]) -> bool
         ensures { result ≡ all_placed self.now task.now }
     {
+        // A loop, since in a closure nothing would bound the place.
         for (i, &statement) in task.iter().enumerate() {
             if !self.admits(statement, task.len() - 1 - i) {
                 return false;
@@ -100,12 +101,9 @@ fn well_placed(statement: Statement, behind: usize) -> bool
     ensures { result ≡ placed statement behind }
 {
     match statement {
-        Statement::Stop => behind == 0,
-        Statement::Next(_) => behind == 0,
-        Statement::Choose { .. } => behind == 0,
+        Statement::Stop | Statement::Next(_) | Statement::Choose { .. } => behind == 0,
         Statement::Skip { reach, .. } => (reach.count() as usize) < behind,
-        Statement::Set { .. } => behind > 0,
-        Statement::Emit(_) => behind > 0,
+        Statement::Set { .. } | Statement::Emit(_) => behind > 0,
     }
 }
 

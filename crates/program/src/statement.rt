@@ -41,7 +41,7 @@ pub type Input = Index<8>;
 // A task of the program.
 pub type Task = Index<16>;
 
-// How many statements a skip passes over; without a model, as an index.
+// How many statements a skip passes over. No model, for the reason at `Index`.
 #[derive(Clone, Copy, PartialEq, Eq, Debug)]
 pub struct Reach {
     count: u8,
@@ -104,6 +104,20 @@ pub struct Test {
 pub enum Target {
     Variable(Variable),
     Local(Local),
+}
+
+// The operand that reads what a set alters.
+impl From<Target> for Operand {
+    ghost use Rattle.program.specs.Runs.{reading};
+
+    ghost from_gives = { λ target operand. operand ≡ reading target };
+
+    fn from(target: Target) -> Operand {
+        match target {
+            Target::Variable(variable) => Operand::Variable(variable),
+            Target::Local(local) => Operand::Local(local),
+        }
+    }
 }
 
 // `Next`, `Choose` and `Stop` are endings: each says which task comes at the next visit.

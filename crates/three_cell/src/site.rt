@@ -9,7 +9,7 @@ use memory::fault::{Fault, Raised};
 use memory::interface::Memory;
 
 // The place of a word whose three cells lie at places that a memory can have.
-#[derive(Clone, Copy)]
+#[derive(Clone, Copy, PartialEq, Eq, Debug)]
 pub(crate) struct Site {
     pub(crate) place: u16,
     ghost near: { 3 * place + 2 < 2 ^ 16 },

@@ -6,6 +6,7 @@ ghost use Rattle.lowest.specs.Members.{left_in_image_allowed};
 
 use crate::backing::{Backing, Bytes};
 
+// By index: the rules say of each word in which two bytes it lies.
 impl<'a> Backing for Bytes<'a> {
     ghost held = { λ b. words_in b.0.now };
 

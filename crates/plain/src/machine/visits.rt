@@ -25,10 +25,7 @@ pub enum Refusal {
 fn first_next() -> Next
     ensures { result ≡ first_next }
 {
-    match Task::new(0) {
-        Some(task) => Next::Task(task),
-        None => Next::Stopped,
-    }
+    Next::Task(Task::new(0).unwrap())
 }
 
 impl<'p> Machine<'p> {

@@ -27,7 +27,7 @@ pub enum Flaw {
 }
 
 impl Draft {
-    // A draft with nothing in it. Its table is one statement, repeated.
+    // A draft with nothing in it.
     pub fn new() -> Draft
         ensures { source_of result ≡ blank }
     {

@@ -20,13 +20,10 @@ impl Program {
         if draft.tasks() == 0 {
             return Err(Flaw::NoTask);
         }
-        // Over numbers: a draft holds no list of tasks, and what the loop tells of a flawed one is its number.
-        for number in 0..draft.tasks() {
-            if !draft.task_sound(number) {
-                return Err(Flaw::Malformed(Task::new(number).unwrap()));
-            }
+        match (0..draft.tasks()).find(|&task| !draft.task_sound(task)) {
+            Some(task) => Err(Flaw::Malformed(Task::new(task).unwrap())),
+            None => Ok(Program { draft }),
         }
-        Ok(Program { draft })
     }
 
     // The variables' first values.
