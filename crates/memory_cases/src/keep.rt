@@ -13,7 +13,7 @@ pub fn through_a_cut(word: u16) -> Stood
     ensures cut { result.cut ≡ Some (record { place = 1; layers = 1 }) }
 {
     let mut bytes = [0u8; 6];
-    // No `unwrap` here: it would take a value whose two variants both hold the buffer, which the borrow checker does not cover.
+    // Twice no `unwrap`, which was tried: of a value whose two variants both hold the borrowed buffer there is no proof.
     let Ok(image) = Image::new(Bytes(&mut bytes), 1, 7) else {
         unreachable!()
     };

@@ -1,6 +1,6 @@
 // Plain words and images: a cut leaves what the last scrap given says, and no more.
 use crate::make::lowest;
-use crate::trial::{FIRST, Kind, LAST, NEW, OLD, SCRAPS, Trial};
+use crate::trial::{FIRST, Kind, LAST, NEW, OLD, SCRAPS, Trial, left_in_words};
 use lowest::backing::{Backing, Bytes, Words};
 use memory::interface::Memory;
 use std::process::Abort;
@@ -51,8 +51,7 @@ fn plain(rt: &impl Abort, charge: u16, scrap: u16) -> Result<u16, Fail> {
 #[test]
 fn plain_words(rt: HostRuntime) -> Result<(), Fail> {
     for scrap in SCRAPS {
-        let left = if scrap % 2 == 1 { NEW } else { OLD };
-        assert_eq!(rt; plain(&rt, 0, scrap)?, left);
+        assert_eq!(rt; plain(&rt, 0, scrap)?, left_in_words(scrap));
         assert_eq!(rt; plain(&rt, 1, scrap)?, NEW);
     }
     Ok(())

@@ -1,6 +1,6 @@
 // Three cells over plain words and over an image: cut at each cell, relit at each charge, and cut again.
 use crate::make::{lowest, three_cells};
-use crate::trial::{FIRST, Kind, LAST, NEW, OLD, SCRAPS, Stood, Trial};
+use crate::trial::{FIRST, Kind, LAST, OLD, SCRAPS, Stood, Trial, left_in_words};
 use lowest::backing::{Backing, Bytes, Words};
 use memory::interface::Memory;
 use std::process::Abort;
@@ -23,8 +23,7 @@ fn run<B: Backing + Drop>(rt: &impl Abort, backing: B, trial: Trial) -> Result<S
 
 #[test]
 fn three_cells_over_words(rt: HostRuntime) -> Result<(), Fail> {
-    let left = |scrap| if scrap % 2 == 1 { NEW } else { OLD };
-    KIND.check(&rt, &SCRAPS, left, |trial| {
+    KIND.check(&rt, &SCRAPS, left_in_words, |trial| {
         let mut list = [FIRST, FIRST, FIRST, OLD, OLD, OLD, LAST, LAST, LAST, 99];
         run(&rt, Words(&mut list), trial)
     })

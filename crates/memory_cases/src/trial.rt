@@ -17,6 +17,11 @@ pub(crate) const NEW: u16 = 300;
 // Even and odd, the old and the new word, and others.
 pub(crate) const SCRAPS: [u16; 6] = [0, 1, OLD, NEW, 513, 65535];
 
+// What a cut leaves in plain words: the new word if the scrap is odd.
+pub(crate) fn left_in_words(scrap: u16) -> u16 {
+    if scrap % 2 == 1 { NEW } else { OLD }
+}
+
 // What a memory is always to tell of itself.
 #[derive(Clone, Copy, Debug)]
 pub(crate) struct Kind {

@@ -28,7 +28,7 @@ fn scan<M: Memory>(below: &M) -> Result<Option<Doubt>, Unmade>
     ensures above { FitsAbove M.Memory below.now result }
 {
     let mut found = None;
-    // A loop, since a closure would not know that the places lie in the memory.
+    // A loop: `try_fold` was tried, and its closure does not know that the place lies in the memory.
     for place in 0..below.len() / 3 {
         let site = Site { place };
         found = only(found, site.doubt(below))?;

@@ -22,7 +22,7 @@ fn recover<M: Memory>(below: &mut M, charge: u32, scrap: u16) -> Result<(), Rais
     ensures scrap { M.Memory.given below.new scrap }
 {
     below.relight(charge, scrap)?;
-    // A loop, since a closure that stores would not tell what the memory then is.
+    // A loop: `try_for_each` was tried, and its closure, which stores, does not tell what the memory then is.
     for place in 0..below.len() / 3 {
         let site = Site { place };
         site.mend(below)?;

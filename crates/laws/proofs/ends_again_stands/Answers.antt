@@ -1,4 +1,4 @@
--- `ends_again_stands`: the law by its lemma.
+-- `ends_again_stands`: the law by its lemma, which the search does not apply by itself.
 use Rattle.laws.proofs.Again.{ends_again}
 use Rattle.laws.proofs.ends_again_stands.Goals as goal
 

@@ -38,7 +38,7 @@ impl<'a> Backing for Words<'a> {
         self.0.get(place).copied().unwrap_or(0)
     }
 
-    // By index: of the list behind a `get_mut` the check would know nothing.
+    // By index: `get_mut` was tried, and after it the check knows nothing of the list.
     fn put(&mut self, place: usize, word: u16) {
         if place < self.0.len() {
             self.0[place] = word;
