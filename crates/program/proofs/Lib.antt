@@ -4,3 +4,4 @@ pub mod Programs
 pub mod Spans
 pub mod Checks
 pub mod Drafts
+pub mod Flaws

@@ -3,7 +3,6 @@ use Rattle.std.proofs.Common.{◌≡◌, ℕ, ◌<◌, ◌≤◌, Bool, true, �
 use Rattle.std.proofs.lemmas.List.{get_or_default, get_or_past}
 use Rattle.std.proofs.lemmas.List.Sums.{AllPass-from_list_all, list_all-from_AllPass}
 use Rattle.std.proofs.lemmas.Bool.{and_from, and_parts, le-leb, lt-ltb, leb-true, ltb-true, cases_lt}
-use Rattle.words.specs.Lists.{items}
 use Rattle.words.proofs.Kept.{items_few}
 use Rattle.program.specs.declared.draft.Draft.{Draft}
 use Rattle.program.specs.declared.program.Program.{Program}
@@ -11,11 +10,11 @@ use Rattle.program.specs.declared.statement.Statement.{Statement}
 use Rattle.std.specs.List.{list_all}
 use Rattle.program.specs.Paths.{paths, ◌∈◌, emitted_on}
 use Rattle.program.specs.Sound.{Source, sound, counts_sound, all_placed, few_emits, task_of, task_sound, scope_of, sound_at, total}
-use Rattle.program.specs.Drafts.{source_of}
+use Rattle.program.specs.Drafts.{NoneIsFlawed, source_of}
 use Rattle.program.specs.Programs.{program_source}
 use Rattle.program.proofs.Drafts.{tasks_count, total_count}
 
-pub counts_checked : (d : Draft) → 0 < length (items d.spans) → counts_sound (source_of d) ≡ true
+counts_checked : (d : Draft) → 0 < length (source_of d).tasks → counts_sound (source_of d) ≡ true
 counts_checked d some =
     let few = d.few in
     let variables = items_few d.firsts in
@@ -27,12 +26,11 @@ counts_checked d some =
     and_from _ _ (and_from _ _ (le-leb (length p.firsts) 48 (omega arith)) (le-leb p.locals 8 (omega arith)))
     (and_from _ _ (and_from _ _ (lt-ltb 0 (length p.tasks) (omega arith)) (le-leb (length p.tasks) 16 (omega arith))) (le-leb (total p.tasks) 256 (omega arith)))
 
-pub all_checked : (d : Draft) → 0 < length (items d.spans) → ((u : ℕ) → u < length (items d.spans) → sound_at (source_of d) u ≡ true) → sound (source_of d) ≡ true
-all_checked d some each =
-    let tasks = tasks_count d in
+pub all_checked : (d : Draft) → 0 < length (source_of d).tasks → NoneIsFlawed (source_of d) → sound (source_of d) ≡ true
+all_checked d some none =
     let p : Source = source_of d in
     and_from _ _ (counts_checked d some)
-    (list_all-from_AllPass _ p.tasks (λ u other h. ap (task_sound (scope_of p)) (get_or_default p.tasks u other [] h) ∙ each u (omega arith)))
+    (list_all-from_AllPass _ p.tasks (λ u other h. ap (task_sound (scope_of p)) (get_or_default p.tasks u other [] h) ∙ none.each u h))
 
 -- What a well-formed source keeps to
 

@@ -1,12 +1,12 @@
 -- What a draft says, and what each step of its making adds to that.
-use Rattle.std.specs.Prelude.{◌≡◌, ℕ, ◌+◌, ◌<◌, ◌≤◌, ◌⊎◌, List, [], ◌∷◌, ◌++◌, map, length, Ok, Err, Result}
+use Rattle.std.specs.Prelude.{◌≡◌, ℕ, ◌+◌, ◌<◌, ◌≤◌, ◌⊎◌, List, [], ◌∷◌, ◌++◌, map, length, true, false, Ok, Err, Result}
 use Rattle.words.specs.Lists.{items}
 use Rattle.program.specs.declared.statement.Index.{Index}
 use Rattle.program.specs.declared.statement.Statement.{Statement}
 use Rattle.program.specs.declared.draft.Draft.{Draft}
 use Rattle.program.specs.Spans.{part}
 use Rattle.program.specs.declared.draft.build.Flaw.{Flaw}
-use Rattle.program.specs.Sound.{Source, total}
+use Rattle.program.specs.Sound.{Source, sound_at, total}
 
 abbrev pub source_of : Draft → Source
 source_of d = record {
@@ -30,6 +30,16 @@ with_local p = record { firsts = p.firsts; locals = p.locals + 1; tasks = p.task
 -- a task more, as yet without statements
 abbrev pub with_task : Source → Source
 with_task p = record { firsts = p.firsts; locals = p.locals; tasks = p.tasks ++ [] ∷ [] }
+
+-- every task is well formed
+pub record NoneIsFlawed (p : Source) : Type 0 where
+  pub each : (u : ℕ) → u < length p.tasks → sound_at p u ≡ true
+
+-- task t is the first that is not well formed
+pub record IsFirstFlawed (p : Source) (t : ℕ) : Type 0 where
+  pub there : t < length p.tasks
+  pub before : (u : ℕ) → u < t → sound_at p u ≡ true
+  pub flawed : sound_at p t ≡ false
 
 -- A declaration of one of at most N is taken and gets its number; or it is refused, since there are N, with nothing altered.
 abbrev pub Adds : {N : ℕ} → ℕ → Flaw → Source → Source → Result (Index N) Flaw → Source → Type 0

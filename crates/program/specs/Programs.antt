@@ -1,9 +1,9 @@
 -- What a program says, and which drafts are programs.
-use Rattle.std.specs.Prelude.{◌≡◌, ℕ, ◌<◌, true, false, length, Ok, Err, Result}
+use Rattle.std.specs.Prelude.{◌≡◌, true, length, Ok, Err, Result}
 use Rattle.program.specs.declared.draft.build.Flaw.{Flaw}
 use Rattle.program.specs.declared.program.Program.{Program}
-use Rattle.program.specs.Sound.{Source, sound, sound_at}
-use Rattle.program.specs.Drafts.{source_of}
+use Rattle.program.specs.Sound.{Source, sound}
+use Rattle.program.specs.Drafts.{IsFirstFlawed, source_of}
 
 abbrev pub program_source : Program → Source
 program_source p = source_of p.draft
@@ -16,4 +16,4 @@ Made p (Err Flaw.Locals) = ⊥
 Made p (Err Flaw.Tasks) = ⊥
 Made p (Err Flaw.Statements) = ⊥
 Made p (Err Flaw.NoTask) = length p.tasks ≡ 0
-Made p (Err (Flaw.Malformed t)) = (t.number < length p.tasks) × ((u : ℕ) → u < t.number → sound_at p u ≡ true) × (sound_at p t.number ≡ false)
+Made p (Err (Flaw.Malformed t)) = IsFirstFlawed p t.number

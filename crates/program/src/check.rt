@@ -78,7 +78,7 @@ impl Scope {
     fn admits_all(&self, task: &[Statement]) -> bool
         ensures { result ≡ all_placed self.now task.now }
     {
-        // A loop, since in a closure nothing would bound the place.
+        // A loop: a chain of `rev`, `enumerate` and `all` was tried, and the search finds no equation for it.
         for (i, &statement) in task.iter().enumerate() {
             if !self.admits(statement, task.len() - 1 - i) {
                 return false;

@@ -1,9 +1,9 @@
 // What a draft holds, for the program made of it.
-ghost use Rattle.std.specs.Prelude.{◌≡◌, ◌<◌, ◌≤◌, length};
+ghost use Rattle.std.specs.Prelude.{◌≡◌, ◌<◌, ◌≤◌, MatchOption, length};
 ghost use Rattle.std.specs.List.{slice_get};
 ghost use Rattle.words.specs.Lists.{items};
 ghost use Rattle.program.specs.Sound.{task_of, sound_at, total};
-ghost use Rattle.program.specs.Drafts.{source_of, last_task};
+ghost use Rattle.program.specs.Drafts.{IsFirstFlawed, NoneIsFlawed, source_of, last_task};
 
 use crate::check::Scope;
 use crate::draft::Draft;
@@ -64,6 +64,13 @@ impl Draft {
         ensures { result ≡ slice_get (task_of (source_of self.now) task.number) place }
     {
         self.statements(task.number()).get(place).copied()
+    }
+
+    // The first task that is not well formed.
+    pub(crate) fn first_flawed(&self) -> Option<u8>
+        ensures { MatchOption result (NoneIsFlawed (source_of self.now)) (IsFirstFlawed (source_of self.now)) }
+    {
+        (0..self.tasks()).find(|&task| !self.task_sound(task))
     }
 
     // Whether a task is well formed.

@@ -14,13 +14,14 @@ use words::list::Words;
 
 impl Program {
     // The draft as a program, if it has a task and every task is well formed.
+    #[tactic(auto, using(crate::proofs::Programs::all_checked))]
     pub fn new(draft: Draft) -> Result<Program, Flaw>
         ensures { Made (source_of draft) result }
     {
         if draft.tasks() == 0 {
             return Err(Flaw::NoTask);
         }
-        match (0..draft.tasks()).find(|&task| !draft.task_sound(task)) {
+        match draft.first_flawed() {
             Some(task) => Err(Flaw::Malformed(Task::new(task).unwrap())),
             None => Ok(Program { draft }),
         }
