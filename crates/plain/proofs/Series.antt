@@ -22,7 +22,7 @@ number_after : (p : Source) (row : List ℕ) (number : ℕ) (next : Next) (emitt
     → (after_visit p row (record { number = number; next = next; emitted = emitted; variables = variables })).next ≡ Next.Task t
     → (after_visit p row (record { number = number; next = next; emitted = emitted; variables = variables })).number ≡ n + 1
 number_after p row number (Next.Task u) emitted variables n before t goes = let e = before u refl in omega arith
-number_after p row number Next.Stopped emitted variables n before t goes = let z : ◌≡◌ {A = ℕ} 0 1 = cc in absurd (omega arith)
+number_after p row number Next.Stopped emitted variables n before t goes = cc
 
 pub numbers_visits : NumbersVisits
 numbers_visits p rows zero t goes = refl

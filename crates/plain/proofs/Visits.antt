@@ -30,9 +30,8 @@ below_last : (number : ℕ) (next : Next) (emitted variables : List ℕ) → vis
     → number ≡ last_number → ⊥
 below_last number (Next.Task t) emitted variables free last =
     let z : ◌≡◌ {A = Option Refusal} (Some Refusal.LastNumber) None = sym (ap (λ b. cond b (Some Refusal.LastNumber) None) (eq-eqb number last_number last)) ∙ free in
-    let y : ◌≡◌ {A = ℕ} 0 1 = cc in
-    omega arith
-below_last number Next.Stopped emitted variables free last = let y : ◌≡◌ {A = ℕ} 0 1 = cc in omega arith
+    cc
+below_last number Next.Stopped emitted variables free last = cc
 
 -- what comes next decides whether there is a visit
 next_cases : (n : Next) → ((t : Index 16) × (n ≡ Next.Task t)) ⊎ (n ≡ Next.Stopped)
@@ -42,11 +41,11 @@ next_cases Next.Stopped = inr refl
 refusal_at : (number : ℕ) (next : Next) (emitted variables : List ℕ) (t : Index 16) → next ≡ Next.Task t
     → visit_refusal (record { number = number; next = next; emitted = emitted; variables = variables }) ≡ cond (eqb number last_number) (Some Refusal.LastNumber) None
 refusal_at number (Next.Task u) emitted variables t e = refl
-refusal_at number Next.Stopped emitted variables t e = let z : ◌≡◌ {A = ℕ} 0 1 = cc in absurd (omega arith)
+refusal_at number Next.Stopped emitted variables t e = cc
 
 stays : (p : Source) (row : List ℕ) (number : ℕ) (next : Next) (emitted variables : List ℕ) → next ≡ Next.Stopped
     → after_visit p row (record { number = number; next = next; emitted = emitted; variables = variables }) ≡ record { number = number; next = next; emitted = emitted; variables = variables }
-stays p row number (Next.Task u) emitted variables e = let z : ◌≡◌ {A = ℕ} 0 1 = cc in absurd (omega arith)
+stays p row number (Next.Task u) emitted variables e = cc
 stays p row number Next.Stopped emitted variables e = refl
 
 -- where a visit leads from m, made or refused
@@ -97,8 +96,7 @@ module _ (p : Source) (rows : ℕ → List ℕ) (i : ℕ) (m n : Plain) (so_far 
         | inl h ↦ elim (next_cases m.next) [
           | inl t ↦
               let no : ◌≡◌ {A = Option Refusal} None (Some e) = sym (free_before h t.0 t.1) ∙ refused in
-              let z : ◌≡◌ {A = ℕ} 0 1 = cc in
-              absurd (omega arith)
+              cc
           | inr stopped ↦ same ∙ sym (stays p (rows i) m.number m.next m.emitted m.variables stopped) ∙ before_last h
         ]
         | inr h ↦ same ∙ past_last h

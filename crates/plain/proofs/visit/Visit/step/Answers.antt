@@ -7,7 +7,8 @@ use Rattle.program.specs.Programs.{program_source}
 use Rattle.program.proofs.Programs.{task_short}
 use Rattle.plain.specs.declared.visit.Visit.{Visit}
 use Rattle.plain.specs.Frames.{run_of}
-use Rattle.plain.proofs.Steps.{nth_some, room_here, room_on}
+use Rattle.plain.proofs.Steps.{room_here, room_on}
+use Rattle.std.proofs.lemmas.Option.{slice_get_within}
 use Rattle.plain.proofs.visit.Visit.step.Goals as goal
 
 abbrev task_in : Visit → List Statement
@@ -22,7 +23,7 @@ pub overflow_add-self-2 : goal.overflow_add-self-2
 overflow_add-self-2 c =
     let v = c.args.self.now in
     let s = c.in_ok-statement.statement in
-    let here = nth_some (task_in v) v.at s s (sym c.in_ok-statement.ensures) in
+    let here = slice_get_within (task_in v) v.at s (sym c.in_ok-statement.ensures) in
     let short = task_short v.program.now v.task.number in
     omega arith
 
