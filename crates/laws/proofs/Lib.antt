@@ -6,3 +6,4 @@ pub mod Again
 pub mod Views
 pub mod Examples
 pub mod Endings
+pub mod Signs

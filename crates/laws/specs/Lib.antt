@@ -3,3 +3,4 @@ pub mod Again
 pub mod Views
 pub mod Examples
 pub mod Endings
+pub mod Signs

@@ -5,6 +5,7 @@ ghost use Rattle.laws.specs.Again.{TakesAPath, PathsShort, EmitsCounted, KeepsUn
 ghost use Rattle.laws.specs.Endings.{EndsOnce};
 ghost use Rattle.laws.specs.Views.{ViewsStep, ViewsRun};
 ghost use Rattle.laws.specs.Examples.{ExamplesHold};
+ghost use Rattle.laws.specs.Signs.{SignsTell};
 
 // The path that a run takes is one of the task's paths.
 pub fn takes_a_path_stands()
@@ -66,6 +67,12 @@ pub fn views_step_stands()
 #[tactic(auto, using(crate::proofs::Views::views_run))]
 pub fn views_run_stands()
     ensures { ViewsRun }
+{}
+
+// A sign tells its operator, or its comparison.
+#[tactic(auto, using(crate::proofs::Signs::signs_tell))]
+pub fn signs_tell_stands()
+    ensures { SignsTell }
 {}
 
 // What runs, paths and the write-after-read rule come to on examples.
