@@ -2,10 +2,12 @@
 #![tactic(auto)]
 
 use crate::tell::Told;
+use memory::through::Stood;
 use plain::machine::Machine;
 use plain::visit::Visit;
 use std::{fmt, io};
 
+mod keep;
 mod rule;
 mod tell;
 
@@ -63,6 +65,16 @@ fn show(rt: &impl Print, machine: &Machine<'_>) -> anyhow::Result<()> {
     println!(rt; "Page: {}", Spaced(&page))?;
     println!(rt;
         "  that is the visit number low and high, the next task, the record's length and eight words, due, n"
+    )?;
+    tell_kept(rt, page[12])
+}
+
+// The page's first variable, stored through a cut and read again.
+fn tell_kept(rt: &impl Print, due: u16) -> anyhow::Result<()> {
+    let Stood { word, cut } = keep::through_a_cut(due);
+    let place = cut.unwrap().place;
+    println!(rt;
+        "Kept through a cut: due = {due} is stored in three cells over an image, power fails at place {place} of the image, and after a relight it reads {word}"
     )?;
     Ok(())
 }

@@ -1,7 +1,6 @@
 // Tests of memories: a word written at every charge, cut, relit and cut again, over each memory and over two layers.
 #![tactic(auto)]
 
-pub mod keep;
 #[cfg(test)]
 mod layers;
 #[cfg(test)]

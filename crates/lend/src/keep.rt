@@ -8,7 +8,7 @@ use three_cell::memories::ThreeCell;
 
 // Stored with a charge for one of its three cells, so that power fails at the second, and relit with the dues.
 // The old word is 0.
-pub fn through_a_cut(word: u16) -> Stood
+pub(crate) fn through_a_cut(word: u16) -> Stood
     ensures word { (result.word ≡ word) ⊎ (result.word ≡ 0) }
     ensures cut { result.cut ≡ Some (record { place = 1; layers = 1 }) }
 {
