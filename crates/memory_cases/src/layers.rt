@@ -25,5 +25,9 @@ fn run(rt: &impl Abort, trial: Trial) -> Result<Stood, Fail> {
 // A cut in the first triple leaves the old word and one in the last the new; in the second, as that triple reads by itself.
 #[test]
 fn three_cells_over_three_cells(rt: HostRuntime) -> Result<(), Fail> {
-    KIND.check(&rt, &[0, OLD, NEW], |scrap| scrap, |trial| run(&rt, trial))
+    KIND.each(&[0, OLD, NEW], |trial| {
+        let stood = run(&rt, trial)?;
+        trial.check(&rt, stood, trial.scrap);
+        Ok(())
+    })
 }

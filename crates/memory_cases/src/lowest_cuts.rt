@@ -1,6 +1,6 @@
 // Plain words and images: a cut leaves what the last scrap given says, and no more.
 use crate::make::lowest;
-use crate::trial::{FIRST, Kind, LAST, NEW, OLD, SCRAPS, Trial, left_in_words};
+use crate::trial::{FIRST, Kind, LAST, NEW, NEXT, OLD, SCRAPS, Stood, Trial, left_in_words};
 use lowest::backing::{Backing, Bytes, Words};
 use memory::interface::Memory;
 use std::process::Abort;
@@ -20,59 +20,40 @@ const IMAGE: Kind = Kind {
     layers: 0,
 };
 
-// The trial over a buffer: the word that stands, and the buffer handed back.
-fn run<B: Backing + Drop>(
-    rt: &impl Abort,
-    kind: Kind,
-    backing: B,
-    charge: u16,
-    scrap: u16,
-) -> Result<(u16, B), Fail> {
-    let mut memory = lowest(backing, charge, scrap)?;
-    let trial = Trial {
-        kind,
-        charge,
-        scrap,
-        relight: 0,
-        next_scrap: 0,
-    };
+// The trial over a buffer, which is handed back.
+fn run<B: Backing + Drop>(rt: &impl Abort, backing: B, trial: Trial) -> Result<(Stood, B), Fail> {
+    let mut memory = lowest(backing, trial.charge, trial.scrap)?;
     let stood = trial.run(rt, &mut memory)?;
-    Ok((stood.word, memory.into_backing()))
+    Ok((stood, memory.into_backing()))
 }
 
-fn plain(rt: &impl Abort, charge: u16, scrap: u16) -> Result<u16, Fail> {
-    let mut list = [FIRST, OLD, LAST];
-    let (word, Words(list)) = run(rt, PLAIN, Words(&mut list), charge, scrap)?;
-    assert_eq!(rt; &*list, &[FIRST, word, LAST][..]);
-    Ok(word)
-}
-
-// Cut, the new word stands if the scrap is odd.
+// Cut, the new word stands if the last scrap given is odd.
 #[test]
 fn plain_words(rt: HostRuntime) -> Result<(), Fail> {
-    for scrap in SCRAPS {
-        assert_eq!(rt; plain(&rt, 0, scrap)?, left_in_words(scrap));
-        assert_eq!(rt; plain(&rt, 1, scrap)?, NEW);
-    }
-    Ok(())
+    PLAIN.each(&SCRAPS, |trial| {
+        let mut list = [FIRST, OLD, LAST];
+        let (stood, Words(list)) = run(&rt, Words(&mut list), trial)?;
+        let word = trial.stored_or(left_in_words(trial.scrap, OLD, NEW));
+        let next = left_in_words(trial.last_scrap(), word, NEXT);
+        assert_eq!(rt; (stood.word, stood.next), (word, next));
+        assert_eq!(rt; &*list, &[FIRST, next, LAST][..]);
+        Ok(())
+    })
 }
 
-fn image(rt: &impl Abort, charge: u16, scrap: u16) -> Result<u16, Fail> {
-    let mut bytes = [6u8, 0, 7, 0, 8, 0];
-    let (word, Bytes(bytes)) = run(rt, IMAGE, Bytes(&mut bytes), charge, scrap)?;
-    let [low, high] = word.to_le_bytes();
-    assert_eq!(rt; &*bytes, &[6, 0, low, high, 8, 0][..]);
-    Ok(word)
-}
-
-// Cut, the scrap stands.
+// Cut, the last scrap given stands.
 #[test]
 fn images(rt: HostRuntime) -> Result<(), Fail> {
-    for scrap in SCRAPS {
-        assert_eq!(rt; image(&rt, 0, scrap)?, scrap);
-        assert_eq!(rt; image(&rt, 1, scrap)?, NEW);
-    }
-    Ok(())
+    IMAGE.each(&SCRAPS, |trial| {
+        let mut bytes = [6u8, 0, 7, 0, 8, 0];
+        let (stood, Bytes(bytes)) = run(&rt, Bytes(&mut bytes), trial)?;
+        let word = trial.stored_or(trial.scrap);
+        let next = trial.last_scrap();
+        assert_eq!(rt; (stood.word, stood.next), (word, next));
+        let [low, high] = next.to_le_bytes();
+        assert_eq!(rt; &*bytes, &[6, 0, low, high, 8, 0][..]);
+        Ok(())
+    })
 }
 
 // A relight's scrap is the last one given: it decides the next cut.

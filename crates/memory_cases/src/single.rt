@@ -1,6 +1,6 @@
 // Three cells over plain words and over an image: cut at each cell, relit at each charge, and cut again.
 use crate::make::{lowest, three_cells};
-use crate::trial::{FIRST, Kind, LAST, OLD, SCRAPS, Stood, Trial, left_in_words};
+use crate::trial::{FIRST, Kind, LAST, NEW, OLD, SCRAPS, Stood, Trial, left_in_words};
 use lowest::backing::{Backing, Bytes, Words};
 use memory::interface::Memory;
 use std::process::Abort;
@@ -23,21 +23,20 @@ fn run<B: Backing + Drop>(rt: &impl Abort, backing: B, trial: Trial) -> Result<S
 
 #[test]
 fn three_cells_over_words(rt: HostRuntime) -> Result<(), Fail> {
-    KIND.check(&rt, &SCRAPS, left_in_words, |trial| {
+    KIND.each(&SCRAPS, |trial| {
         let mut list = [FIRST, FIRST, FIRST, OLD, OLD, OLD, LAST, LAST, LAST, 99];
-        run(&rt, Words(&mut list), trial)
+        let stood = run(&rt, Words(&mut list), trial)?;
+        trial.check(&rt, stood, left_in_words(trial.scrap, OLD, NEW));
+        Ok(())
     })
 }
 
 #[test]
 fn three_cells_over_an_image(rt: HostRuntime) -> Result<(), Fail> {
-    KIND.check(
-        &rt,
-        &SCRAPS,
-        |scrap| scrap,
-        |trial| {
-            let mut bytes = [6u8, 0, 6, 0, 6, 0, 7, 0, 7, 0, 7, 0, 8, 0, 8, 0, 8, 0];
-            run(&rt, Bytes(&mut bytes), trial)
-        },
-    )
+    KIND.each(&SCRAPS, |trial| {
+        let mut bytes = [6u8, 0, 6, 0, 6, 0, 7, 0, 7, 0, 7, 0, 8, 0, 8, 0, 8, 0];
+        let stood = run(&rt, Bytes(&mut bytes), trial)?;
+        trial.check(&rt, stood, trial.scrap);
+        Ok(())
+    })
 }
