@@ -6,6 +6,7 @@ use Rattle.memory.specs.declared.fault.Raised.{Raised}
 use Rattle.memory.specs.declared.fault.Unmade.{Unmade}
 use Rattle.memory.specs.declared.fault.Unmade.TheVariants as unmade
 use Rattle.memory.specs.Faults.{raise}
+use Rattle.memory.specs.Light.{left_at}
 use Rattle.memory.specs.Value.{Kind, Value, SureWhen, DoubtBelow, MayHold, Relights, Wrote, settled}
 use Rattle.cells.specs.Triple.{A, B, C, Equal, Underway, mends, to_all}
 use Rattle.cells.specs.Cells.{Outcome, lowest_of, mended_below, stored_to, thirds, triple_at, words_of}
@@ -48,7 +49,7 @@ pub record Follows (o : Outcome) (r : Result (Unit {0}) Raised) (after : Value) 
 
 -- what a write makes of the memory below: nothing where it is refused, else its three stores
 abbrev pub below_after : Value → Bool → ℕ → ℕ → Value
-below_after below lit p w = cond lit (cond (nat_lt p (thirds below.words)) (stored_to below p (to_all w)).value below) below
+below_after below lit p w = left_at lit p (thirds below.words) (stored_to below p (to_all w)).value below
 
 -- A relight, by what the memory below then is: it is relit. If that is cut, so is this; otherwise all words are mended, upward.
 abbrev pub Recovers : Value → ℕ → Result (Unit {0}) Raised → Value → Type 0

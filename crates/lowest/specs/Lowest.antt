@@ -1,6 +1,7 @@
 -- A lowest memory, over the words that its buffer holds.
 use Rattle.std.specs.Prelude.{◌≡◌, ℕ, ◌%◌, ◌^◌, ◌<◌, ◌≤◌, Bool, cond, ◌&&◌, List, length, Some, None, Option, ◌==◌, nat_le, nat_lt, slice_index, slice_set}
 use Rattle.memory.specs.declared.doubt.Doubt.{Doubt}
+use Rattle.memory.specs.Light.{left_at}
 use Rattle.memory.specs.Value.{Kind, SureWhen, Value, settled}
 
 -- What a cut leaves in plain words, by the last scrap given, the old word and the new: the new one if the scrap is odd.
@@ -24,12 +25,7 @@ makeable held even = nat_le (length held) 32768 && even
 
 -- what the buffer holds after a write: where power lacks, what a cut leaves; dark, or at no place of it, nothing alters
 abbrev pub held_after : (ℕ → ℕ → ℕ → ℕ) → List ℕ → Bool → ℕ → ℕ → ℕ → ℕ → List ℕ
-held_after leaves held lit charge scrap p w =
-    cond lit
-    (cond (nat_lt p (length held))
-    (slice_set held p (cond (nat_lt charge 1) (leaves scrap (slice_index held p) w) w))
-    held)
-    held
+held_after leaves held lit charge scrap p w = left_at lit p (length held) (slice_set held p (cond (nat_lt charge 1) (leaves scrap (slice_index held p) w) w)) held
 
 -- the place in doubt holds what the cut left
 abbrev pub Stands : (ℕ → ℕ → ℕ → ℕ) → List ℕ → ℕ → Option Doubt → Type 0

@@ -31,4 +31,5 @@ lowest_limits leaves whole buffer held charge lit scrap doubt l =
       layers_few = omega arith;
       sure_when_lit = l.sure;
       doubt_inside = λ d e. let s = inside leaves held scrap doubt l.stands d e in omega arith;
+      places = record { inside = λ charge p h. omega (arith, l.short); own = λ e charge p. refl };
     }

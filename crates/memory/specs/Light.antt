@@ -15,6 +15,14 @@ abbrev pub doubt_of : Light → Option Doubt
 doubt_of Lit = None
 doubt_of (Dark doubt) = doubt
 
--- Whether a place of so many can be read and written: dark refuses every place, and lit one that is not there.
+-- What a call at a place of so many answers: 3 if dark, 4 if there is no such place, otherwise what is said there.
+abbrev pub answer_at : {A : Type 0} → Bool → ℕ → ℕ → Result A Fault → Result A Fault
+answer_at lit place count answer = cond lit (cond (nat_lt place count) answer (Err fault.Outside)) (Err fault.Dark)
+
+-- What it leaves: where it is refused, what there was.
+abbrev pub left_at : {A : Type 0} → Bool → ℕ → ℕ → A → A → A
+left_at lit place count new old = cond lit (cond (nat_lt place count) new old) old
+
+-- Whether the place can be read and written, or why not.
 abbrev pub reached : Bool → ℕ → ℕ → Result (Unit {0}) Fault
-reached lit place count = cond lit (cond (nat_lt place count) (Ok tt) (Err fault.Outside)) (Err fault.Dark)
+reached lit place count = answer_at lit place count (Ok tt)

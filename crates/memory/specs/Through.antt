@@ -41,7 +41,7 @@ abbrev pub Through : Value → ℕ → ℕ → ℕ → Result Stood Fault → Va
 Through v p w charge (Ok s) after = StandsThrough v p w charge s after
 Through v p w charge (Err e) after = IsRefused v p e after ⊎ IsCutTwice v p w charge e after
 
--- The last scrap given: as it was, or that of the relight where the store was cut.
+-- The last scrap given: as it was, or that of the relight where the store was cut. Refused, one of the two.
 abbrev pub Gives : {M : Type 0} → (M → ℕ → Type 0) → M → ℕ → Result Stood Fault → M → Type 0
 Gives given m scrap (Ok s) after = elim s.cut [ None ↦ ((t : ℕ) → given m t → given after t) | Some c ↦ given after scrap ]
-Gives given m scrap (Err e) after = Unit {0}
+Gives given m scrap (Err e) after = ((t : ℕ) → given m t → given after t) ⊎ given after scrap

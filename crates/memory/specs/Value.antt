@@ -5,6 +5,7 @@ use Rattle.memory.specs.declared.doubt.Doubt.{Doubt}
 use Rattle.memory.specs.declared.fault.Cut.{Cut}
 use Rattle.memory.specs.declared.fault.Fault.{Fault}
 use Rattle.memory.specs.declared.fault.Fault.TheVariants as fault
+use Rattle.memory.specs.Light.{answer_at, left_at}
 
 -- What never alters, besides the count of words.
 pub record Kind : Type 0 where
@@ -45,6 +46,11 @@ SureWhen lit doubt = lit ≡ true → is_some doubt ≡ false
 abbrev pub DoubtBelow : ℕ → Option Doubt → Type 0
 DoubtBelow n doubt = (d : Doubt) → doubt ≡ Some d → d.place < n
 
+-- A store to one of n places is cut at a place of the lowest memory, so that 65,535 is never told of it; with no memory below, at that place itself.
+pub record TellsPlaces (k : Kind) (n : ℕ) : Type 0 where
+  pub inside : (charge p : ℕ) → p < n → k.lowest charge p < 32768
+  pub own : k.layers ≡ 0 → (charge p : ℕ) → k.lowest charge p ≡ p
+
 -- The limits of every memory.
 pub record Limits (v : Value) : Type 0 where
   pub short : length v.words ≤ 32768
@@ -56,10 +62,11 @@ pub record Limits (v : Value) : Type 0 where
   pub layers_few : v.kind.layers ≤ 245 + v.kind.price
   pub sure_when_lit : SureWhen v.lit v.doubt
   pub doubt_inside : DoubtBelow (length v.words) v.doubt
+  pub places : TellsPlaces v.kind (length v.words)
 
 -- READ: the word at the place; 3 if dark, 4 if the place is not below the length.
 abbrev pub read_of : Value → ℕ → Result ℕ Fault
-read_of v p = cond v.lit (cond (nat_lt p (length v.words)) (Ok (slice_index v.words p)) (Err fault.Outside)) (Err fault.Dark)
+read_of v p = answer_at v.lit p (length v.words) (Ok (slice_index v.words p))
 
 -- what a cut carries
 abbrev pub cut_at : Kind → ℕ → ℕ → Cut
@@ -75,20 +82,10 @@ cut_short v p w = record { words = v.words; charge = 0; lit = false; doubt = Som
 
 -- WRITE: what it answers, and the memory after it.
 abbrev pub write_answer : Value → ℕ → Result (Unit {0}) Fault
-write_answer v p =
-    cond v.lit
-    (cond (nat_lt p (length v.words))
-    (cond (nat_lt v.charge v.kind.price) (Err (fault.Cut (cut_at v.kind v.charge p))) (Ok tt))
-    (Err fault.Outside))
-    (Err fault.Dark)
+write_answer v p = answer_at v.lit p (length v.words) (cond (nat_lt v.charge v.kind.price) (Err (fault.Cut (cut_at v.kind v.charge p))) (Ok tt))
 
 abbrev pub written : Value → ℕ → ℕ → Value
-written v p w =
-    cond v.lit
-    (cond (nat_lt p (length v.words))
-    (cond (nat_lt v.charge v.kind.price) (cut_short v p w) (stored v p w))
-    v)
-    v
+written v p w = left_at v.lit p (length v.words) (cond (nat_lt v.charge v.kind.price) (cut_short v p w) (stored v p w)) v
 
 pub record Wrote (v : Value) (p w : ℕ) (r : Result (Unit {0}) Fault) (after : Value) : Type 0 where
   pub answer : r ≡ write_answer v p

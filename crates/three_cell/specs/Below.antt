@@ -1,13 +1,12 @@
 -- What is done to the memory below, by what that memory means.
-use Rattle.std.specs.Prelude.{◌≡◌, ℕ, ◌+◌, ◌*◌, ◌<◌, ◌≤◌, true, not, cond, List, length, is_some, None, Ok, Err, Option, Result, nat_lt, slice_index}
+use Rattle.std.specs.Prelude.{◌≡◌, ℕ, ◌+◌, ◌*◌, ◌<◌, ◌≤◌, true, not, List, length, is_some, None, Ok, Err, Option, Result, slice_index}
 use Rattle.memory.specs.declared.doubt.Doubt.{Doubt}
 use Rattle.memory.specs.declared.fault.Fault.{Fault}
-use Rattle.memory.specs.declared.fault.Fault.TheVariants.{Dark, Outside}
 use Rattle.memory.specs.declared.fault.Raised.{Raised}
 use Rattle.memory.specs.declared.fault.Unmade.{Unmade}
 use Rattle.memory.specs.declared.interface.Memory.{Ghosts}
 use Rattle.memory.specs.declared.light.Light.{Light}
-use Rattle.memory.specs.Light.{doubt_of, is_lit}
+use Rattle.memory.specs.Light.{answer_at, doubt_of, is_lit}
 use Rattle.cells.specs.declared.triple.Triple.{Triple}
 use Rattle.cells.specs.Triple.{To}
 use Rattle.cells.specs.Cells.{mended, stored_to, thirds, triple_at, words_of}
@@ -38,7 +37,7 @@ module _ {M : Type 0} (memory : Ghosts M) where
 
   -- the cells of word p; 3 if dark, 4 if the last of them is not below the length
   abbrev pub ReadsCells : M → ℕ → Result (Triple ℕ) Fault → Type 0
-  ReadsCells m p r = memory.lawful m → r ≡ cond (memory.seen m).lit (cond (nat_lt (3 * p + 2) (length (words_in m))) (Ok (triple_at (words_in m) p)) (Err Outside)) (Err Dark)
+  ReadsCells m p r = memory.lawful m → r ≡ answer_at (memory.seen m).lit (3 * p + 2) (length (words_in m)) (Ok (triple_at (words_in m) p))
 
   abbrev pub ReadsWord : M → ℕ → Result ℕ Fault → Type 0
   ReadsWord m p r = memory.lawful m → (memory.seen m).lit ≡ true → p < thirds (words_in m) → r ≡ Ok (slice_index (words_of (words_in m)) p)

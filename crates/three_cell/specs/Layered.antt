@@ -42,12 +42,12 @@ module _ {M : Type 0} (memory : Ghosts M) where
   abbrev pub RelightsThree : ThreeCell M → ℕ → Result (Unit {0}) Fault → ThreeCell M → Type 0
   RelightsThree m charge r after = three_lawful m → three_lawful after × Relights (three_seen m) charge r (three_seen after)
 
-  -- what the memory below then is
+  -- What the memory below then is. A relight goes by that memory alone: nothing else is remembered.
   abbrev pub StoresBelow : ThreeCell M → ℕ → ℕ → ThreeCell M → Type 0
   StoresBelow m p w after = three_lawful m → below_seen after ≡ below_after (below_seen m) (is_lit m.light) p w
 
   abbrev pub MendsBelow : ThreeCell M → ℕ → Result (Unit {0}) Fault → ThreeCell M → Type 0
-  MendsBelow m charge r after = three_lawful m → MendsAll (below_seen m) charge r (below_seen after)
+  MendsBelow m charge r after = memory.lawful m.below → MendsAll (below_seen m) charge r (below_seen after)
 
   -- making: lit, or dark with a word in doubt; or the memory below is handed back, with the reason
   abbrev pub Makes : M → Result (ThreeCell M) (Unfit M) → Type 0
