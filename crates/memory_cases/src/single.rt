@@ -21,12 +21,37 @@ fn run<B: Backing + Drop>(rt: &impl Abort, backing: B, trial: Trial) -> Result<S
     trial.run(rt, &mut memory)
 }
 
+// The cells of the word after the write: the one that was cut holds what its cut left, those before it the new word, those
+// behind it the old.
+fn cells_after(charge: u16, left: u16) -> [u16; 3] {
+    match charge {
+        0 => [left, OLD, OLD],
+        1 => [NEW, left, OLD],
+        2 => [NEW, NEW, left],
+        _ => [NEW; 3],
+    }
+}
+
+// How many stores make the cells equal, each for a charge of one: one to A or B where these two differ, and one to C where
+// B and C do.
+fn stores_owed([a, b, c]: [u16; 3]) -> u16 {
+    u16::from(a != b) + u16::from(b != c)
+}
+
+// The words that stood are as in any trial, and the first relight was cut exactly when it brought less than the stores
+// that it owed.
+fn check(rt: &impl Abort, trial: Trial, stood: Stood, left: u16) {
+    trial.check(rt, stood, left);
+    let owed = stores_owed(cells_after(trial.charge, left));
+    assert_eq!(rt; stood.cut_again, trial.relight < owed, "{trial:?}");
+}
+
 #[test]
 fn three_cells_over_words(rt: HostRuntime) -> Result<(), Fail> {
     KIND.each(&SCRAPS, |trial| {
         let mut list = [FIRST, FIRST, FIRST, OLD, OLD, OLD, LAST, LAST, LAST, 99];
         let stood = run(&rt, Words(&mut list), trial)?;
-        trial.check(&rt, stood, left_in_words(trial.scrap, OLD, NEW));
+        check(&rt, trial, stood, left_in_words(trial.scrap, OLD, NEW));
         Ok(())
     })
 }
@@ -36,7 +61,7 @@ fn three_cells_over_an_image(rt: HostRuntime) -> Result<(), Fail> {
     KIND.each(&SCRAPS, |trial| {
         let mut bytes = [6u8, 0, 6, 0, 6, 0, 7, 0, 7, 0, 7, 0, 8, 0, 8, 0, 8, 0];
         let stood = run(&rt, Bytes(&mut bytes), trial)?;
-        trial.check(&rt, stood, trial.scrap);
+        check(&rt, trial, stood, trial.scrap);
         Ok(())
     })
 }
