@@ -13,12 +13,13 @@ const KIND: Kind = Kind {
     layers: 1,
 };
 
-// The trial over a buffer of nine cells.
-fn run<B: Backing + Drop>(rt: &impl Abort, backing: B, trial: Trial) -> Result<Stood, Fail> {
+// The trial over a buffer of nine cells and one place over, which is handed back.
+fn run<B: Backing + Drop>(rt: &impl Abort, backing: B, trial: Trial) -> Result<(Stood, B), Fail> {
     let below = lowest(backing, trial.charge, trial.scrap)?;
     let mut memory = three_cells(below)?;
     assert_eq!(rt; memory.len(), 3);
-    trial.run(rt, &mut memory)
+    let stood = trial.run(rt, &mut memory)?;
+    Ok((stood, memory.into_below().into_backing()))
 }
 
 // The cells of the word after the write: the one that was cut holds what its cut left, those before it the new word, those
@@ -46,22 +47,34 @@ fn check(rt: &impl Abort, trial: Trial, stood: Stood, left: u16) {
     assert_eq!(rt; stood.cut_again, trial.relight < owed, "{trial:?}");
 }
 
+// At the end all cells of each word are equal, and the place over is as it was.
 #[test]
 fn three_cells_over_words(rt: HostRuntime) -> Result<(), Fail> {
     KIND.each(&SCRAPS, |trial| {
         let mut list = [FIRST, FIRST, FIRST, OLD, OLD, OLD, LAST, LAST, LAST, 99];
-        let stood = run(&rt, Words(&mut list), trial)?;
+        let (stood, Words(list)) = run(&rt, Words(&mut list), trial)?;
         check(&rt, trial, stood, left_in_words(trial.scrap, OLD, NEW));
+        let next = stood.next;
+        let equal = [FIRST, FIRST, FIRST, next, next, next, LAST, LAST, LAST, 99];
+        assert_eq!(rt; &*list, &equal[..], "{trial:?}");
         Ok(())
     })
 }
 
+// The same of the bytes.
 #[test]
 fn three_cells_over_an_image(rt: HostRuntime) -> Result<(), Fail> {
     KIND.each(&SCRAPS, |trial| {
-        let mut bytes = [6u8, 0, 6, 0, 6, 0, 7, 0, 7, 0, 7, 0, 8, 0, 8, 0, 8, 0];
-        let stood = run(&rt, Bytes(&mut bytes), trial)?;
+        let mut bytes = [
+            6u8, 0, 6, 0, 6, 0, 7, 0, 7, 0, 7, 0, 8, 0, 8, 0, 8, 0, 99, 0,
+        ];
+        let (stood, Bytes(bytes)) = run(&rt, Bytes(&mut bytes), trial)?;
         check(&rt, trial, stood, trial.scrap);
+        let [low, high] = stood.next.to_le_bytes();
+        let equal = [
+            6, 0, 6, 0, 6, 0, low, high, low, high, low, high, 8, 0, 8, 0, 8, 0, 99, 0,
+        ];
+        assert_eq!(rt; &*bytes, &equal[..], "{trial:?}");
         Ok(())
     })
 }
