@@ -54,6 +54,7 @@ pub record ExamplesHold : Type 0 where
   pub no_charge_when_dark : (three_value (lit_with 5 under_way) false (Some four_to_six)).charge ≡ 0
   -- a store is cut at the cell at which the charge gives out, and told one layer up
   pub stored_all : (stored_to (lit_with 5 two_words) 1 (to_all 6)).value ≡ lit_with 2 (7 ∷ 7 ∷ 7 ∷ 6 ∷ 6 ∷ 6 ∷ 9 ∷ [])
+  pub cut_leaves_b : (stored_to (lit_with 1 two_words) 1 (to_all 6)).value ≡ record { words = 7 ∷ 7 ∷ 7 ∷ 6 ∷ 4 ∷ 4 ∷ 9 ∷ []; charge = 0; lit = false; doubt = Some (record { place = 4; old = 4; new = 6 }); kind = lowest }
   pub cut_at_a : write_answer (three_value (lit_with 0 two_words) true None) 1 ≡ cut_at_place 3 1
   pub cut_at_b : write_answer (three_value (lit_with 1 two_words) true None) 1 ≡ cut_at_place 4 1
   pub cut_at_c : write_answer (three_value (lit_with 2 two_words) true None) 1 ≡ cut_at_place 5 1

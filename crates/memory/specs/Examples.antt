@@ -1,10 +1,10 @@
 -- What faults and a memory's value come to on examples.
-use Rattle.std.specs.Prelude.{◌≡◌, ℕ, ◌+◌, ◌*◌, Bool, true, false, [], ◌∷◌, Some, None, Ok, Err}
+use Rattle.std.specs.Prelude.{◌≡◌, ℕ, ◌+◌, ◌*◌, Bool, true, false, List, [], ◌∷◌, Some, None, Ok, Err}
 use Rattle.memory.specs.declared.fault.Cut.{Cut}
 use Rattle.memory.specs.declared.fault.Fault.TheVariants as fault
 use Rattle.memory.specs.declared.fault.Unmade.TheVariants as unmade
 use Rattle.memory.specs.Faults.{raise, told, unmade_number}
-use Rattle.memory.specs.Value.{Kind, MayHold, Value, read_of, settled, write_answer, written}
+use Rattle.memory.specs.Value.{CutAgain, Kind, MayHold, NoMoreInDoubt, Relit, Value, read_of, settled, write_answer, written}
 
 -- cut at place 7, so many layers below the one that was called
 abbrev pub at_seven : ℕ → Cut
@@ -17,6 +17,18 @@ some_kind whole = record { price = 2; dues = 1; whole = whole; layers = 1; lowes
 -- two words, lit
 abbrev pub lit_with : Bool → ℕ → Value
 lit_with whole charge = record { words = 4 ∷ 5 ∷ []; charge = charge; lit = true; doubt = None; kind = some_kind whole }
+
+-- the second word is 6, with so much charge
+abbrev pub lit_on_new : ℕ → Value
+lit_on_new charge = record { words = 4 ∷ 6 ∷ []; charge = charge; lit = true; doubt = None; kind = some_kind true }
+
+-- dark, with nothing in doubt
+abbrev pub dark_and_sure : List ℕ → Value
+dark_and_sure words = record { words = words; charge = 0; lit = false; doubt = None; kind = some_kind true }
+
+-- cut at such a place of the lowest memory, with one layer above it
+abbrev pub cut_there : ℕ → Cut
+cut_there place = record { place = place; layers = 1 }
 
 -- the second word cut on the way from 5 to 6
 abbrev pub dark : Bool → Value
@@ -52,3 +64,18 @@ pub record ExamplesHold : Type 0 where
   pub whole_holds_no_other : MayHold (dark true) (4 ∷ 7 ∷ []) → ⊥
   pub no_other_place : MayHold (dark true) (6 ∷ 5 ∷ []) → ⊥
   pub torn_holds_any : MayHold (dark false) (4 ∷ 65535 ∷ [])
+  -- relit: on one of these, for at most the dues
+  pub relit_for_nothing : Relit (dark true) 3 (lit_on_new 3)
+  pub relit_for_the_dues : Relit (dark true) 3 (lit_on_new 2)
+  pub no_more_than_the_dues : Relit (dark true) 3 (lit_on_new 1) → ⊥
+  pub no_charge_is_added : Relit (dark true) 3 (lit_on_new 4) → ⊥
+  pub relit_and_lit : Relit (dark true) 3 (dark true) → ⊥
+  -- cut again: only below the dues, by the memory's own doing or at a store to the word in doubt
+  pub cut_by_itself : CutAgain (dark true) 0 (cut_there 65535) (dark true)
+  pub cut_at_a_store : CutAgain (dark true) 0 (cut_there 3) (dark true)
+  pub cut_at_no_other : CutAgain (dark true) 0 (cut_there 4) (dark true) → ⊥
+  pub not_with_the_dues : CutAgain (dark true) 1 (cut_there 65535) (dark true) → ⊥
+  -- it may be settled then, on one of the words that it may hold; nothing else comes in doubt
+  pub settled_on_new : NoMoreInDoubt (dark true) (dark_and_sure (4 ∷ 6 ∷ []))
+  pub settled_on_no_other : NoMoreInDoubt (dark true) (dark_and_sure (4 ∷ 7 ∷ [])) → ⊥
+  pub sure_stays_sure : NoMoreInDoubt (dark_and_sure (4 ∷ 5 ∷ [])) (dark true) → ⊥
