@@ -1,8 +1,8 @@
 // Takes one lending rule through one visit of the plain machine, and tells what was done.
 #![tactic(auto)]
 
+use crate::keep::Kept;
 use crate::tell::Told;
-use memory::through::Stood;
 use plain::machine::Machine;
 use plain::visit::Visit;
 use std::{fmt, io};
@@ -71,8 +71,8 @@ fn show(rt: &impl Print, machine: &Machine<'_>) -> anyhow::Result<()> {
 
 // The page's first variable, stored through a cut and read again.
 fn tell_kept(rt: &impl Print, due: u16) -> anyhow::Result<()> {
-    let Stood { word, cut } = keep::through_a_cut(due);
-    let place = cut.unwrap().place;
+    let Kept { word, cut } = keep::through_a_cut(due);
+    let place = cut.place;
     println!(rt;
         "Kept through a cut: due = {due} is stored in three cells over an image, power fails at place {place} of the image, and after a relight it reads {word}"
     )?;

@@ -20,10 +20,10 @@ module _ {B : Type 0} (buffer : Ghosts B) where
   seen_by m = lowest_value (lowest_kind buffer.whole (buffer.buffer m.backing)) (held_by m) m.charge (is_lit m.light) (doubt_of m.light)
 
   abbrev pub lawful_by : Lowest B → Type 0
-  lawful_by m = LowestLawful buffer.leaves (held_by m) m.charge (is_lit m.light) m.scrap (doubt_of m.light)
+  lawful_by m = LowestLawful buffer.leaves (held_by m) (buffer.even m.backing) m.charge (is_lit m.light) m.scrap (doubt_of m.light)
 
   abbrev pub limits_by : (m : Lowest B) → lawful_by m → Limits (seen_by m)
-  limits_by m l = lowest_limits buffer.leaves buffer.whole (buffer.buffer m.backing) (held_by m) m.charge (is_lit m.light) m.scrap (doubt_of m.light) l
+  limits_by m l = lowest_limits buffer.leaves buffer.whole (buffer.buffer m.backing) (held_by m) (buffer.even m.backing) m.charge (is_lit m.light) m.scrap (doubt_of m.light) l
 
   -- a memory over what the buffer holds: lit, nothing in doubt
   abbrev pub lit_over : B → ℕ → Value

@@ -1,5 +1,5 @@
 -- A lowest memory, over the words that its buffer holds.
-use Rattle.std.specs.Prelude.{◌≡◌, ℕ, ◌%◌, ◌^◌, ◌<◌, ◌≤◌, Bool, cond, ◌&&◌, List, length, Some, None, Option, ◌==◌, nat_le, nat_lt, slice_index, slice_set}
+use Rattle.std.specs.Prelude.{◌≡◌, ℕ, ◌%◌, ◌^◌, ◌<◌, ◌≤◌, Bool, true, cond, ◌&&◌, List, length, Some, None, Option, ◌==◌, nat_le, nat_lt, slice_index, slice_set}
 use Rattle.memory.specs.declared.doubt.Doubt.{Doubt}
 use Rattle.memory.specs.Light.{left_at}
 use Rattle.memory.specs.Value.{Kind, SureWhen, Value, settled}
@@ -33,8 +33,10 @@ Stands leaves held scrap None = Unit {0}
 Stands leaves held scrap (Some d) = (d.place < length held) × (slice_index held d.place ≡ leaves scrap d.old d.new)
 
 -- What making sees to and every call keeps.
-pub record LowestLawful (leaves : ℕ → ℕ → ℕ → ℕ) (held : List ℕ) (charge : ℕ) (lit : Bool) (scrap : ℕ) (doubt : Option Doubt) : Type 0 where
+pub record LowestLawful (leaves : ℕ → ℕ → ℕ → ℕ) (held : List ℕ) (even : Bool) (charge : ℕ) (lit : Bool) (scrap : ℕ) (doubt : Option Doubt) : Type 0 where
   pub short : length held ≤ 32768
+  -- no part of a word is over, so that the words tell the whole buffer
+  pub none_over : even ≡ true
   pub charge_high : charge ≤ 4294967295
   pub scrap_high : scrap < 2 ^ 16
   pub sure : SureWhen lit doubt

@@ -19,8 +19,8 @@ inside : (leaves : ℕ → ℕ → ℕ → ℕ) (held : List ℕ) (scrap : ℕ) 
 inside leaves held scrap None s d e = cc
 inside leaves held scrap (Some x) s d e = let p : x.place ≡ d.place = cc in let q = s.0 in omega arith
 
-pub lowest_limits : (leaves : ℕ → ℕ → ℕ → ℕ) (whole : Bool) (buffer : ℕ) (held : List ℕ) (charge : ℕ) (lit : Bool) (scrap : ℕ) (doubt : Option Doubt) → LowestLawful leaves held charge lit scrap doubt → Limits (lowest_value (lowest_kind whole buffer) held charge lit doubt)
-lowest_limits leaves whole buffer held charge lit scrap doubt l =
+pub lowest_limits : (leaves : ℕ → ℕ → ℕ → ℕ) (whole : Bool) (buffer : ℕ) (held : List ℕ) (even : Bool) (charge : ℕ) (lit : Bool) (scrap : ℕ) (doubt : Option Doubt) → LowestLawful leaves held even charge lit scrap doubt → Limits (lowest_value (lowest_kind whole buffer) held charge lit doubt)
+lowest_limits leaves whole buffer held even charge lit scrap doubt l =
     let n = length_settled doubt held in
     record {
       short = omega (arith, l.short);

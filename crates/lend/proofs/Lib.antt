@@ -1,0 +1,2 @@
+-- Lemmas of the program that a person runs.
+pub mod Cells
