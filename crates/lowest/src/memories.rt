@@ -47,7 +47,7 @@ impl<B: Backing> Lowest<B> {
         ensures { Reaches B.Backing self.now place result }
     {
         self.light.reach(place, self.backing.len())?;
-        Ok(place as usize)
+        Ok(usize::from(place))
     }
 
     // The buffer is handed back.

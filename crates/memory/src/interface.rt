@@ -8,8 +8,8 @@ pub trait Memory {
     // The memory as a value.
     ghost seen: { Self → Value };
 
-    // What its maker establishes and every call keeps. No call traps or runs on without it. It stands before each promise,
-    // since no ghost field of a generic memory can cite what its parameter means.
+    // What its maker establishes and every call keeps; the promises speak of a lawful memory. A member, and no ghost field:
+    // a field of a memory over another cannot say what that other means. Lawful or not, no call traps or runs on.
     ghost lawful: { Self → Type 0 };
 
     // The limits of every lawful memory.

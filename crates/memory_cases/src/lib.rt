@@ -12,4 +12,6 @@ mod makers;
 #[cfg(test)]
 mod single;
 #[cfg(test)]
+mod through;
+#[cfg(test)]
 mod trial;

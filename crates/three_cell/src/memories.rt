@@ -36,7 +36,7 @@ impl<M: Memory> ThreeCell<M> {
     fn reach(&self, place: u16) -> Result<Site, Fault>
         ensures { three_lawful M.Memory self.now → Reaches M.Memory self.now place result }
     {
-        self.light.reach(place, self.len() as usize)?;
+        self.light.reach(place, usize::from(self.len()))?;
         Ok(Site { place })
     }
 }
