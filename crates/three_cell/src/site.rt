@@ -78,7 +78,7 @@ impl Site {
     }
 
     // Stores a word to A, then to B, then to C.
-    #[tactic(auto, using(cells::proofs::Writing::stored_above))]
+    #[tactic(auto, using(crate::proofs::Storing::stored_word))]
     pub(crate) fn store<M: Memory>(self, below: &mut M, word: u16) -> Result<(), Raised>
         ensures stores { Stores M.Memory below.old self.place (to_all word) result below.new }
         ensures scrap { KeepsScrap M.Memory below.old below.new }

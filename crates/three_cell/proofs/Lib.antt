@@ -1,0 +1,2 @@
+-- Lemmas of the three-cell memory.
+pub mod Storing
