@@ -8,6 +8,7 @@ use memory::interface::Memory;
 use three_cell::memories::ThreeCell;
 
 // A word read again, and where power had failed when it was stored.
+#[derive(Clone, Copy, Debug)]
 pub(crate) struct Kept {
     pub(crate) word: u16,
     pub(crate) cut: Cut,
