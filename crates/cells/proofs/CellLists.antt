@@ -6,7 +6,7 @@ use Rattle.std.proofs.lemmas.List.{get_or-set_same, get_or-set_other, set-get_or
 use Rattle.cells.specs.declared.triple.Triple.{Triple}
 use Rattle.cells.specs.Triple.{A, B, C, Cell, To, put, reads}
 use Rattle.cells.specs.Cells.{place_of, triple_at, word_of, words_of}
-use Rattle.cells.specs.Members.{length_words}
+use Rattle.cells.specs.Members.{length_words, within_three}
 use Rattle.cells.specs.Laws.{puts}
 
 -- a store to a cell of word p alters that cell of its triple
@@ -28,11 +28,6 @@ triple_put C words p x h =
     cc
 
 -- the cells of word p stand within three places of 3p
-pub within_three : (j : Cell) (p : ℕ) → (3 * p < place_of j p + 1) × (place_of j p < 3 * p + 3)
-within_three A p = (omega arith, omega arith)
-within_three B p = (omega arith, omega arith)
-within_three C p = (omega arith, omega arith)
-
 pub record SameBut (p : ℕ) (words words' : List ℕ) : Type 0 where
   pub long : length words' ≡ length words
   pub off : (k : ℕ) → k ≢ p → triple_at words' k ≡ triple_at words k

@@ -9,7 +9,8 @@ use Rattle.cells.specs.declared.triple.Triple.{Triple}
 use Rattle.cells.specs.Triple.{Cell, To, Underway, put}
 use Rattle.cells.specs.Cells.{Outcome, lowest_of, place_of, stored_to, triple_at}
 use Rattle.cells.specs.Laws.{Safe}
-use Rattle.cells.proofs.CellLists.{SameBut, same_self, same_set, same_then, sets, triple_put, within_three}
+use Rattle.cells.proofs.CellLists.{SameBut, same_self, same_set, same_then, sets, triple_put}
+use Rattle.cells.specs.Members.{within_three}
 
 -- a memory that is lit, so that nothing is in doubt
 abbrev pub lit_value : List ℕ → ℕ → Kind → Value

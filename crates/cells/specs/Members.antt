@@ -1,5 +1,5 @@
 -- A proof that is a member of the interface: a three-cell memory keeps the limits.
-use Rattle.std.specs.Prelude.{◌≡◌, ℕ, ◌-◌, ◌/◌, ◌<◌, ◌≤◌, Bool, true, false, cond, List, [], ◌∷◌, length, Option, nat_lt}
+use Rattle.std.specs.Prelude.{◌≡◌, ℕ, ◌+◌, ◌-◌, ◌*◌, ◌/◌, ◌<◌, ◌≤◌, Bool, true, false, cond, List, [], ◌∷◌, length, Option, nat_lt}
 use Rattle.std.proofs.Common.{◌∙◌, arith}
 use Rattle.std.proofs.lemmas.List.FromFn.{length-map-range_with_len}
 use Rattle.memory.specs.declared.doubt.Doubt.{Doubt}
@@ -18,29 +18,29 @@ length_three_words doubt words = length_settled doubt (words_of words) ∙ lengt
 pub length_three : (below : Value) (lit : Bool) (doubt : Option Doubt) → length (three_value below lit doubt).words ≡ length below.words / 3
 length_three below lit doubt = length_three_words doubt below.words
 
-charge_shown : (lit : Bool) (charge : ℕ) → cond lit charge 0 ≤ charge
-charge_shown true charge = omega arith
-charge_shown false charge = omega arith
+both_below : (b : Bool) (x y n : ℕ) → x ≤ n → y ≤ n → cond b x y ≤ n
+both_below true x y n l m = l
+both_below false x y n l m = m
 
-cell_inside : (c : Cell) (p n : ℕ) → p < n / 3 → place_of c p < n
-cell_inside A p n h = omega arith
-cell_inside B p n h = omega arith
-cell_inside C p n h = omega arith
-
-one_below : (b : Bool) (x y n : ℕ) → x < n → y < n → cond b x y < n
-one_below true x y n l m = l
-one_below false x y n l m = m
+pub within_three : (j : Cell) (p : ℕ) → (3 * p < place_of j p + 1) × (place_of j p < 3 * p + 3)
+within_three A p = (omega arith, omega arith)
+within_three B p = (omega arith, omega arith)
+within_three C p = (omega arith, omega arith)
 
 -- a store to a cell is cut at a place of the lowest memory
 lowest_inside : (k : Kind) (n : ℕ) → ((charge p : ℕ) → p < n → k.lowest charge p < 32768) → (p : ℕ) → p < n / 3 → (cells : List Cell) (charge : ℕ) → lowest_of k charge p cells < 32768
 lowest_inside k n told p h [] charge = omega arith
 lowest_inside k n told p h (c ∷ rest) charge =
-    one_below (nat_lt charge k.price) _ _ 32768 (told charge (place_of c p) (cell_inside c p n h)) (lowest_inside k n told p h rest (charge - k.price))
+    let w = within_three c p in
+    let here = told charge (place_of c p) (omega arith) in
+    let later = lowest_inside k n told p h rest (charge - k.price) in
+    let either : lowest_of k charge p (c ∷ rest) ≤ 32767 = both_below (nat_lt charge k.price) _ _ 32767 (omega arith) (omega arith) in
+    omega arith
 
 pub three_limits : (below : Value) (lit : Bool) (doubt : Option Doubt) → Limits below → ThreeLawful below lit doubt → Limits (three_value below lit doubt)
 three_limits below lit doubt m t =
     let n = length_three below lit doubt in
-    let c = charge_shown lit below.charge in
+    let c = both_below lit below.charge 0 below.charge (omega arith) (omega arith) in
     record {
       short = omega (arith, m.short);
       charge_high = omega (arith, m.charge_high);

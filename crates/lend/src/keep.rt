@@ -1,5 +1,6 @@
 // One word kept through a cut, in three cells over an image.
-ghost use Rattle.std.specs.Prelude.{◌≡◌};
+ghost use Rattle.std.specs.Prelude.{[], ◌∷◌, ◌≡◌};
+ghost use Rattle.lowest.specs.Image.{words_in};
 
 use lowest::backing::Bytes;
 use lowest::memories::Image;
@@ -7,22 +8,24 @@ use memory::fault::{Cut, Fault};
 use memory::interface::Memory;
 use three_cell::memories::ThreeCell;
 
-// A word read again, and where power had failed when it was stored.
-#[derive(Clone, Copy, Debug)]
-pub(crate) struct Kept {
+// A word read again, where power had failed when it was stored, and the bytes that hold it.
+#[derive(Drop)]
+pub(crate) struct Kept<'a> {
     pub(crate) word: u16,
     pub(crate) cut: Cut,
+    pub(crate) cells: Bytes<'a>,
 }
 
 // Stored with a charge for one of its three cells, so that power fails at the second and leaves 7 there; the old word is 0.
 // Then both memories are made anew, since after a loss of power nothing but the bytes remembers, and relit with the dues.
 // No `unwrap` of what is made: of a value whose two variants both hold the borrowed buffer there is no proof.
-pub(crate) fn through_a_cut(word: u16) -> Kept
+pub(crate) fn through_a_cut<'a>(bytes: &'a mut [u8; 6], word: u16) -> Kept<'a>
     ensures word { result.word ≡ word }
     ensures cut { result.cut ≡ record { place = 1; layers = 1 } }
+    ensures cells { words_in result.cells.0.now ≡ word ∷ word ∷ word ∷ [] }
 {
-    let mut bytes = [0u8; 6];
-    let Ok(image) = Image::new(Bytes(&mut bytes), 1, 7) else {
+    *bytes = [0; 6];
+    let Ok(image) = Image::new(Bytes(bytes), 1, 7) else {
         unreachable!()
     };
     let Ok(mut cells) = ThreeCell::new(image) else {
@@ -40,7 +43,11 @@ pub(crate) fn through_a_cut(word: u16) -> Kept
     };
     cells.relight(2, 0).unwrap();
     let word = cells.read(0).unwrap();
-    Kept { word, cut }
+    Kept {
+        word,
+        cut,
+        cells: cells.into_below().into_backing(),
+    }
 }
 
 #[cfg(test)]
@@ -50,7 +57,8 @@ mod tests {
     // Cut at the second cell, where the scrap then stands, it is mended from the first.
     #[test]
     fn kept_through_a_cut(rt: HostRuntime) {
-        let kept = through_a_cut(114);
+        let mut bytes = [0u8; 6];
+        let kept = through_a_cut(&mut bytes, 114);
         assert_eq!(rt; kept.word, 114);
         assert_eq!(rt;
             kept.cut,
@@ -59,5 +67,6 @@ mod tests {
                 layers: 1,
             }
         );
+        assert_eq!(rt; &*kept.cells.0, &[114, 0, 114, 0, 114, 0][..]);
     }
 }

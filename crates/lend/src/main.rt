@@ -71,7 +71,8 @@ fn show(rt: &impl Print, machine: &Machine<'_>) -> anyhow::Result<()> {
 
 // The page's first variable, stored through a cut and read again.
 fn tell_kept(rt: &impl Print, due: u16) -> anyhow::Result<()> {
-    let Kept { word, cut } = keep::through_a_cut(due);
+    let mut bytes = [0; 6];
+    let Kept { word, cut, .. } = keep::through_a_cut(&mut bytes, due);
     let place = cut.place;
     println!(rt;
         "Kept through a cut: due = {due} is stored in three cells over an image, power fails at place {place} of the image, and after a relight it reads {word}"
