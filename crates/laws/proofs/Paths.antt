@@ -25,7 +25,7 @@ in_either x (z ∷ xs) ys (inl e) = inl (inl e)
 in_either x (z ∷ xs) ys (inr h) = elim (in_either x xs ys h) [ inl l ↦ inl (inr l) | inr r ↦ inr r ]
 
 module _ {A B : Type 0} (f : A → B) where
-  in_map : (x : A) (xs : List A) → x ∈ xs → f x ∈ map f xs
+  pub in_map : (x : A) (xs : List A) → x ∈ xs → f x ∈ map f xs
   in_map x [] h = absurd h
   in_map x (z ∷ xs) (inl e) = inl (ap f e)
   in_map x (z ∷ xs) (inr h) = inr (in_map x xs h)
@@ -36,7 +36,7 @@ module _ {A B : Type 0} (f : A → B) where
   from_map y (z ∷ xs) (inr h) = let on = from_map y xs h in (on.0, inr on.1, on.2)
 
 module _ {A B : Type 0} (f : A → List B) where
-  in_joined : (x : A) (xs : List A) (y : B) → x ∈ xs → y ∈ f x → y ∈ flat_map f xs
+  pub in_joined : (x : A) (xs : List A) (y : B) → x ∈ xs → y ∈ f x → y ∈ flat_map f xs
   in_joined x [] y h i = absurd h
   in_joined x (z ∷ xs) y (inl e) i = in_left y (f z) (flat_map f xs) (subst (λ w. y ∈ f w) e i)
   in_joined x (z ∷ xs) y (inr h) i = in_right y (f z) (flat_map f xs) (in_joined x xs y h i)

@@ -52,7 +52,7 @@ module _ (p : Source) (h : sound p ≡ true) where
 -- and so a program
 
 -- of a task that is there, its check; of any other, that it has no statements
-task_cases : (p : Program) (t : ℕ) → (sound_at (program_source p) t ≡ true) ⊎ (task_of (program_source p) t ≡ [])
+pub task_cases : (p : Program) (t : ℕ) → (sound_at (program_source p) t ≡ true) ⊎ (task_of (program_source p) t ≡ [])
 task_cases p t =
     elim (cases_lt t (length (program_source p).tasks)) [
       | inl h ↦ inl (task_at (program_source p) p.checked t h)

@@ -43,7 +43,7 @@ impl Draft {
     }
 
     // The statements of a task; one that is not there has none.
-    fn statements(&self, task: u8) -> &[Statement]
+    pub(crate) fn statements(&self, task: u8) -> &[Statement]
         ensures value { result.now ≡ task_of (source_of self.now) task }
         ensures bound { length result.now ≤ 64 }
     {

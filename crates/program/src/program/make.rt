@@ -34,6 +34,13 @@ impl Program {
         self.draft.firsts()
     }
 
+    // The statements of a task; one that is not there has none.
+    pub fn statements(&self, task: Task) -> &[Statement]
+        ensures { result.now ≡ task_of (program_source self.now) task.number }
+    {
+        self.draft.statements(task.number())
+    }
+
     // The statement at a place of a task, if there is one.
     pub fn statement(&self, task: Task, place: usize) -> Option<Statement>
         ensures { result ≡ slice_get (task_of (program_source self.now) task.number) place }
