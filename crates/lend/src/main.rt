@@ -8,6 +8,7 @@ use plain::visit::Visit;
 use std::{fmt, io};
 
 mod keep;
+mod knows;
 mod rule;
 mod tell;
 
@@ -47,6 +48,7 @@ fn run(rt: &impl Print) -> anyhow::Result<()> {
     let program = rule::due_date()?;
     println!(rt; "The rule of due dates: a loan is due 14 days after the day of the visit.")?;
     println!(rt; "Variables due = 0 and n = 5, local t, task a.")?;
+    knows::tell(rt, &program)?;
     let mut machine = Machine::new(&program);
     println!(rt;
         "Visit 0 with row {} on the plain machine, task a:",

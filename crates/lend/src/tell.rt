@@ -4,7 +4,7 @@ use program::statement::{Index, Operand, Statement, Target, Task, Test};
 use std::fmt;
 
 // The names of the rule of due dates, in the order of their declarations.
-const VARIABLES: [&str; 2] = ["due", "n"];
+pub(crate) const VARIABLES: [&str; 2] = ["due", "n"];
 
 const LOCALS: [&str; 1] = ["t"];
 
