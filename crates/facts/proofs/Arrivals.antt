@@ -1,8 +1,9 @@
 -- The facts along the ways to a place, and the facts of the statements that lead there.
-use Rattle.std.proofs.Common.{◌≡◌, ℕ, zero, suc, get_or, ◌+◌, ◌<◌, ◌≤◌, true, List, [], ◌∷◌, ◌++◌, map, length, set, Option, Some, sym, refl, ap, ◌∙◌, subst, inl, inr, arith}
+use Rattle.std.proofs.Common.{◌≡◌, ℕ, get_or, ◌+◌, ◌<◌, ◌≤◌, true, List, [], ◌∷◌, ◌++◌, map, length, set, Option, Some, sym, refl, ap, ◌∙◌, subst, inl, inr, arith}
 use Rattle.std.specs.List.{slice_get}
-use Rattle.std.proofs.lemmas.Option.{get_or_from_slice_get, slice_get-get_or}
+use Rattle.std.proofs.lemmas.Option.{get_or_from_slice_get, slice_get_cases, slice_get-get_or}
 use Rattle.std.proofs.lemmas.List.{get_or-set_same, get_or-set_other}
+use Rattle.std.proofs.lemmas.List.Sums.{fold-append}
 use Rattle.std.proofs.lemmas.Bool.{cases_eq}
 use Rattle.program.specs.declared.statement.Statement.{Statement}
 use Rattle.program.specs.Shapes.{ways}
@@ -27,8 +28,7 @@ abbrev pub Filled : {F : Type 0} → F → (Statement → F → F) → (F → F 
 Filled {F} start effect join task table at = (i : ℕ) (f : F) → i < at → slice_get table i ≡ Some f → IsJoin join (Leaves start effect task i) f
 
 along_push : {F : Type 0} (effect : Statement → F → F) (f : F) (π : List Statement) (s : Statement) → along effect f (π ++ s ∷ []) ≡ effect s (along effect f π)
-along_push effect f [] s = refl
-along_push effect f (t ∷ π) s = along_push effect (effect t f) π s
+along_push effect f π s = fold-append (λ g t. effect t g) f π (s ∷ [])
 
 -- how a way came to place j, if that is not the first
 abbrev Came : List Statement → ℕ → List Statement → Type 0
@@ -47,9 +47,7 @@ same_some p q = cc
 
 -- there is an element at a place within
 pub element : {A : Type 0} (xs : List A) (i : ℕ) → i < length xs → (x : A) × (slice_get xs i ≡ Some x)
-element [] i l = absurd (omega arith)
-element (x ∷ xs) zero l = (x, refl)
-element (x ∷ xs) (suc i) l = element xs i (omega arith)
+element xs i l = elim (slice_get_cases xs i).1 [ inl w ↦ (w.0, w.2) | inr p ↦ absurd (omega (arith, p.0)) ]
 
 module _ {F : Type 0} (start : F) (effect : Statement → F → F) (join : F → F → F) where
   -- the start fact arrives at the first place

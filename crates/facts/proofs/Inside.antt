@@ -1,6 +1,7 @@
 -- No statement of a program's task leads beyond the task.
-use Rattle.std.proofs.Common.{◌≡◌, ℕ, ◌-◌, ◌≤◌, true, ◌&&◌, ltb, leb, eqb, cond, not, List, [], ◌∷◌, length, refl, ap, inl, inr, arith}
+use Rattle.std.proofs.Common.{◌≡◌, ℕ, ◌-◌, ◌≤◌, true, ◌&&◌, ltb, leb, eqb, cond, not, List, [], ◌∷◌, get_or, length, refl, ap, inl, inr, arith}
 use Rattle.std.specs.List.{list_all}
+use Rattle.std.proofs.lemmas.List.Sums.{AllPass-from_list_all, list_all-from_AllPass}
 use Rattle.std.proofs.lemmas.Bool.{and_parts, and_from, leb-true, le-leb}
 use Rattle.program.specs.declared.check.Scope.{Scope}
 use Rattle.program.specs.declared.program.Program.{Program}
@@ -12,11 +13,9 @@ use Rattle.program.proofs.Programs.{task_cases}
 use Rattle.facts.specs.Passes.{inside}
 
 all_within : (ks : List ℕ) (m n : ℕ) → m ≤ n → list_all (λ k. leb k m) ks ≡ true → list_all (λ k. leb k n) ks ≡ true
-all_within [] m n l h = refl
-all_within (k ∷ ks) m n l h =
-    let p = and_parts (leb k m) (list_all (λ k. leb k m) ks) h in
-    let small = leb-true k m p.0 in
-    and_from _ _ (le-leb k n (omega arith)) (all_within ks m n l p.1)
+all_within ks m n l h =
+    list_all-from_AllPass (λ k. leb k n) ks
+    (λ i d r. let small = leb-true (get_or ks i d) m (AllPass-from_list_all (λ k. leb k m) ks h i d r) in le-leb (get_or ks i d) n (omega arith))
 
 placed_inside : (scope : Scope) (task : List Statement) → all_placed scope task ≡ true → inside task ≡ true
 placed_inside scope [] h = refl

@@ -88,7 +88,7 @@ module _ {F : Type 0} {join : F → F → F} (associative : Associative join) (c
   least (both {f = f} {g = g} a b) u all = associative f g u ∙ ap (join f) (least b u all) ∙ least a u all
 
   -- so there is one
-  pub one_join : {P : F → Type 0} {r s : F} → IsJoin join P r → IsJoin join P s → r ≡ s
+  one_join : {P : F → Type 0} {r s : F} → IsJoin join P r → IsJoin join P s → r ≡ s
   one_join {r = r} {s = s} j k = sym (least k.made r j.covers) ∙ commutative s r ∙ least j.made s k.covers
 
   -- the join of the facts of a list, from its first on

@@ -1,10 +1,11 @@
 -- The facts of the statements that lead to a place, taken from one after the other.
-use Rattle.std.proofs.Common.{◌≡◌, ℕ, ◌+◌, ◌-◌, ◌<◌, ◌≤◌, true, false, cond, eqb, ◌⊎◌, List, [], ◌∷◌, length, Some, sym, refl, ◌∙◌, subst, inl, inr, arith}
+use Rattle.std.proofs.Common.{◌≡◌, ℕ, ◌+◌, ◌-◌, ◌<◌, ◌≤◌, true, false, cond, eqb, ◌⊎◌, List, length, Some, sym, refl, ◌∙◌, subst, inl, inr, arith}
 use Rattle.std.specs.List.{list_any, slice_get}
-use Rattle.std.proofs.lemmas.Bool.{cases_Bool, cases_eq, false≢true, eqb-true, eq-eqb, or_cases, or_left, or_right}
+use Rattle.std.proofs.lemmas.Bool.{cases_Bool, cases_eq, false≢true, eqb-true, eq-eqb}
 use Rattle.program.specs.declared.statement.Statement.{Statement}
 use Rattle.program.specs.Shapes.{ways}
 use Rattle.program.specs.Paths.{◌∈◌}
+use Rattle.laws.proofs.Paths.{any_from, any_to}
 use Rattle.facts.specs.Joins.{IsJoin}
 use Rattle.facts.specs.Passes.{LeadsTo}
 use Rattle.facts.proofs.Joins.{Associative, Commutative, Idempotent, same_join, join_of_one, join_of_two}
@@ -41,13 +42,10 @@ passes_none (Statement.Choose c t u) = inl refl
 
 -- the test finds a member
 found : (n : ℕ) (ks : List ℕ) → list_any (λ k. eqb k n) ks ≡ true → n ∈ ks
-found n [] h = absurd (false≢true h)
-found n (k ∷ ks) h = elim (or_cases (eqb k n) (list_any (λ k. eqb k n) ks) h) [ inl e ↦ inl (sym (eqb-true k n e)) | inr i ↦ inr (found n ks i) ]
+found n ks h = let on = any_to (λ k. eqb k n) ks h in subst (λ k. k ∈ ks) (eqb-true on.0 n on.2) on.1
 
 finds : (n : ℕ) (ks : List ℕ) → n ∈ ks → list_any (λ k. eqb k n) ks ≡ true
-finds n [] h = absurd h
-finds n (k ∷ ks) (inl e) = or_left _ _ (eq-eqb k n (sym e))
-finds n (k ∷ ks) (inr i) = or_right _ _ (finds n ks i)
+finds n ks i = any_from (λ k. eqb k n) n ks i (eq-eqb n n refl)
 
 module _ {F : Type 0} (join : F → F → F) (task : List Statement) (after : List F) (at : ℕ) where
   abbrev leading : (m : ℕ) (s : Statement) (k : ℕ) (f : F) → slice_get task m ≡ Some s → k ∈ ways s → at ≡ m + 1 + k → slice_get after m ≡ Some f → LeadsTo task after at f

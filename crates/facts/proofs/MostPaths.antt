@@ -108,7 +108,7 @@ some_as_many count [] ρ h = absurd h
 some_as_many count (π ∷ πs) ρ h = some_of count π πs
 
 -- every task has a path, as any run takes one
-pub has_path : (k : ℕ) (task : List Statement) → (π : List Statement) × (π ∈ paths k task)
+has_path : (k : ℕ) (task : List Statement) → (π : List Statement) × (π ∈ paths k task)
 has_path k task =
     let still : Run = record { inputs = []; variables = []; locals = []; emitted = []; chosen = Next.Stopped } in
     (taken k task still, takes_a_path k task still)

@@ -9,13 +9,13 @@ use Rattle.std.proofs.lemmas.Nat.Bits.{bit_at-lt, bit_at_and, bit_at_or, bit_at_
 use Rattle.std.proofs.Math.Pow.{pow-lt, pow_pos}
 use Rattle.program.specs.declared.statement.Index.{Index}
 use Rattle.facts.specs.declared.set.VariableSet.{VariableSet}
-use Rattle.facts.specs.Sets.{variables, has, set_of, of_bits, single, union, intersection, difference}
+use Rattle.facts.specs.Sets.{variables, has, set_of, of_bits, single, union, intersection, difference, size}
 pub use Rattle.facts.specs.Membership.{same_bits, has_of, same_members}
 
 pub same_sets : (f g : ℕ → Bool) → ((v : ℕ) → v < 48 → f v ≡ g v) → set_of f ≡ set_of g
 same_sets f g h = same_members (set_of f) (set_of g) (λ v l. has_of f v l ∙ h v l ∙ sym (has_of g v l))
 
-pub set_of_members : (a : VariableSet) → set_of (has a) ≡ a
+set_of_members : (a : VariableSet) → set_of (has a) ≡ a
 set_of_members a = same_members (set_of (has a)) a (has_of (has a))
 
 -- the set of a number's 1 bits has that number
@@ -92,3 +92,6 @@ tested a k l =
 
 pub counted : (a : VariableSet) → count_ones a.bits ≡ count_by (has a) variables
 counted a = ap (λ s. count_ones s.bits) (sym (set_of_members a)) ∙ ones-mask_l (has a) variables
+
+pub size_of : (test : ℕ → Bool) → size (set_of test) ≡ count_by test variables
+size_of test = sym (counted (set_of test)) ∙ ones-mask_l test variables

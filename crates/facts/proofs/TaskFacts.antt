@@ -1,6 +1,5 @@
 -- From what the pass answers to the facts of a task.
-use Rattle.std.proofs.Common.{◌≡◌, ◌↔◌, ℕ, zero, suc, ◌+◌, ◌<◌, ◌≤◌, Bool, true, cond, List, length, Ok, Err, Result, sym, refl, ap, ◌∙◌, subst, arith}
-use Rattle.std.specs.List.{count_by, fold, range_with_len}
+use Rattle.std.proofs.Common.{◌≡◌, ◌↔◌, ℕ, ◌<◌, ◌≤◌, Bool, true, List, length, Ok, Err, Result, sym, ap, ◌∙◌, subst}
 use Rattle.program.specs.declared.program.Program.{Program}
 use Rattle.program.specs.declared.statement.Statement.{Statement}
 use Rattle.program.specs.Paths.{Logged, logged_test}
@@ -14,9 +13,9 @@ use Rattle.facts.specs.Bounds.{Found, IsTaskFacts, most_of_task, logged_count, s
 use Rattle.facts.specs.Joins.{IsOverPaths}
 use Rattle.facts.specs.Most.{IsMost, counted, larger, most_over, no_counts}
 use Rattle.facts.specs.Passes.{Passed}
-use Rattle.facts.specs.Sets.{has, set_of, size, variables}
+use Rattle.facts.specs.Sets.{has, set_of, size}
 use Rattle.facts.specs.Touched.{IsTouched, meet, touch, touched_over, untouched}
-use Rattle.facts.proofs.Sets.{has_of}
+use Rattle.facts.proofs.Sets.{has_of, size_of}
 use Rattle.facts.proofs.MostPaths.{most_is, most_is_largest, most_over_same}
 use Rattle.facts.proofs.TouchedOver.{touched_is, rule_kept}
 
@@ -44,22 +43,12 @@ most_found logged p t = passed_as no_counts (most_right logged (task_of (program
 
 -- both together
 
-tallied_same : (f g : ℕ → Bool) (a n : ℕ) → ((v : ℕ) → v < a + n → f v ≡ g v) → (k : ℕ)
-    → fold (λ m v. m + cond (f v) 1 0) k (range_with_len a n) ≡ fold (λ m v. m + cond (g v) 1 0) k (range_with_len a n)
-tallied_same f g a zero h k = refl
-tallied_same f g a (suc n) h k =
-    ap (λ b. fold (λ m v. m + cond (f v) 1 0) (k + cond b 1 0) (range_with_len (a + 1) n)) (h a (omega arith))
-    ∙ tallied_same f g (a + 1) n (λ v l. h v (omega arith)) (k + cond (g a) 1 0)
-
-counted_same : (f g : ℕ → Bool) → ((v : ℕ) → v < 48 → f v ≡ g v) → count_by f variables ≡ count_by g variables
-counted_same f g h = tallied_same f g 0 48 h 0
-
 task_facts : (task : List Statement) (t : Touches) (c : Counts) → IsTouched task t → IsMost (has t.logged) task c → IsTaskFacts task (record { logged = t.logged; emits = c.emits; direct = c.direct })
 task_facts task t c touched most =
     let sets : t.logged ≡ set_of (logged_test task) = ap (λ x. x.logged) touched.sets in
     let same : (v : ℕ) → v < 48 → has t.logged v ≡ logged_test task v = λ v l. ap (λ s. has s v) sets ∙ has_of (logged_test task) v l in
     let counts : c ≡ most_of_task task = most.counts ∙ most_over_same (has t.logged) (logged_test task) same task in
-    let p : size t.logged ≡ logged_count task = counted_same (has t.logged) (logged_test task) same in
+    let p : size t.logged ≡ logged_count task = ap size sets ∙ size_of (logged_test task) in
     record {
       logged = sets;
       rule = touched.rule;

@@ -1,8 +1,9 @@
 -- The ways to a place of a task, and that those to its end are its paths.
-use Rattle.std.proofs.Common.{◌≡◌, ℕ, zero, suc, ◌+◌, ◌≤◌, true, leb, List, [], ◌∷◌, ◌++◌, drop, length, Some, sym, refl, ap, ◌∙◌, subst, inl, inr, arith}
+use Rattle.std.proofs.Common.{◌≡◌, ℕ, zero, suc, ◌+◌, ◌≤◌, true, leb, List, [], ◌∷◌, ◌++◌, drop, get_or, length, Some, sym, refl, ap, ◌∙◌, subst, inl, inr, arith}
 use Rattle.std.specs.List.{flat_map, list_all, slice_get}
-use Rattle.std.proofs.lemmas.List.{append-nil, drop-drop, drop_all, length-drop}
-use Rattle.std.proofs.lemmas.Option.{slice_get_within}
+use Rattle.std.proofs.lemmas.List.{append_assoc, append-nil, drop-drop, drop_all, get_or-drop, length-drop}
+use Rattle.std.proofs.lemmas.Option.{get_or_from_slice_get, slice_get_read, slice_get_within}
+use Rattle.std.proofs.Math.Seq.{drop-cons}
 use Rattle.std.proofs.lemmas.Bool.{and_parts, leb-true}
 use Rattle.program.specs.declared.statement.Statement.{Statement}
 use Rattle.program.specs.Shapes.{ways}
@@ -16,22 +17,18 @@ pub data Way (task : List Statement) : ℕ → List Statement → Type 0 where
   first : Way task 0 []
   on : {i j : ℕ} {π : List Statement} {s : Statement} → Way task i π → slice_get task i ≡ Some s → (k : ℕ) → k ∈ ways s → j ≡ i + 1 + k → Way task j (π ++ s ∷ [])
 
-push : {A : Type 0} (xs : List A) (x : A) (ys : List A) → (xs ++ x ∷ []) ++ ys ≡ xs ++ x ∷ ys
-push [] x ys = refl
-push (z ∷ xs) x ys = ap (λ r. z ∷ r) (push xs x ys)
-
-first_left : {A : Type 0} (xs : List A) (i : ℕ) → slice_get xs i ≡ slice_get (drop i xs) 0
-first_left [] zero = refl
-first_left [] (suc i) = refl
-first_left (y ∷ xs) zero = refl
-first_left (y ∷ xs) (suc i) = first_left xs i
-
 -- what is left from place i on begins with the statement there
 left_at : {A : Type 0} (xs : List A) (i : ℕ) (x : A) → slice_get xs i ≡ Some x → drop i xs ≡ x ∷ drop (i + 1) xs
-left_at [] zero x e = cc
-left_at [] (suc i) x e = cc
-left_at (y ∷ xs) zero x e = let h : y ≡ x = cc in ap (λ z. z ∷ xs) h
-left_at (y ∷ xs) (suc i) x e = let next : suc (i + 1) ≡ suc i + 1 = omega arith in left_at xs i x e ∙ ap (λ n. x ∷ drop n (y ∷ xs)) next
+left_at xs i x e =
+    let next : suc i ≡ i + 1 = omega arith in
+    drop-cons xs i x (slice_get_within xs i x e) ∙ ap (λ y. y ∷ drop (suc i) xs) (get_or_from_slice_get xs i x x e) ∙ ap (λ n. x ∷ drop n xs) next
+
+-- and the other way round
+at_left : {A : Type 0} (xs : List A) (i : ℕ) (x : A) (rest : List A) → drop i xs ≡ x ∷ rest → slice_get xs i ≡ Some x
+at_left xs i x rest e =
+    let size = length-drop i xs in
+    let from : get_or (drop i xs) 0 x ≡ get_or xs i x = get_or-drop i xs 0 x ∙ ap (λ n. get_or xs n x) (omega arith) in
+    slice_get_read xs (length xs) i x refl (omega (arith, size, ap length e)) (sym (ap (λ l. get_or l 0 x) e) ∙ from)
 
 tail_of : {A : Type 0} {x : A} {xs ys : List A} → x ∷ xs ≡ x ∷ ys → xs ≡ ys
 tail_of e = ap (drop 1) e
@@ -49,7 +46,7 @@ way_and_path {task} (on {i = i} {j = j} {π = π} {s = s} w st k m e) ρ h =
     let behind : paths k (drop (i + 1) task) ≡ paths 0 (drop j task) = paths_left k (drop (i + 1) task) ∙ ap (paths 0) (drop-drop k (i + 1) task ∙ ap (λ n. drop n task) (omega (arith, e))) in
     let here : (s ∷ ρ) ∈ paths 0 (s ∷ drop (i + 1) task) =
     in_map (λ σ. s ∷ σ) ρ (flat_map (λ n. paths n (drop (i + 1) task)) (ways s)) (in_joined (λ n. paths n (drop (i + 1) task)) k (ways s) ρ m (subst (λ πs. ρ ∈ πs) (sym behind) h)) in
-    rw (push π s ρ) (way_and_path w (s ∷ ρ) (subst (λ l. (s ∷ ρ) ∈ paths 0 l) (sym (left_at task i s st)) here))
+    rw (append_assoc π (s ∷ []) ρ) (way_and_path w (s ∷ ρ) (subst (λ l. (s ∷ ρ) ∈ paths 0 l) (sym (left_at task i s st)) here))
 
 -- a way to the place from which k statements of the rest are to be passed over, and a path of that rest, make a way to the end
 way_on : (task : List Statement) (i k : ℕ) (rest π ρ : List Statement) → i ≤ length task → drop i task ≡ rest → inside rest ≡ true → k ≤ length rest → Way task (i + k) π → ρ ∈ paths k rest → Way task (length task) (π ++ ρ)
@@ -60,12 +57,12 @@ way_on task i zero [] π ρ l e h n w (inl m) =
 way_on task i zero [] π ρ l e h n w (inr m) = absurd m
 way_on task i (suc k) [] π ρ l e h n w m = absurd (omega arith)
 way_on task i (suc k) (s ∷ rest) π ρ l e h n w m =
-    let st : slice_get task i ≡ Some s = first_left task i ∙ ap (λ xs. slice_get xs 0) e in
+    let st : slice_get task i ≡ Some s = at_left task i s rest e in
     let left : drop (i + 1) task ≡ rest = tail_of (sym (left_at task i s st) ∙ e) in
     let within = slice_get_within task i s st in
     way_on task (i + 1) k rest π ρ (omega arith) left (and_parts (list_all (λ k. leb k (length rest)) (ways s)) (inside rest) h).1 (omega arith) (subst (λ j. Way task j π) (omega arith) w) m
 way_on task i zero (s ∷ rest) π ρ l e h n w m =
-    let st : slice_get task i ≡ Some s = first_left task i ∙ ap (λ xs. slice_get xs 0) e in
+    let st : slice_get task i ≡ Some s = at_left task i s rest e in
     let left : drop (i + 1) task ≡ rest = tail_of (sym (left_at task i s st) ∙ e) in
     let within = slice_get_within task i s st in
     let p = from_map (λ σ. s ∷ σ) ρ (flat_map (λ k. paths k rest) (ways s)) m in
@@ -74,7 +71,7 @@ way_on task i zero (s ∷ rest) π ρ l e h n w m =
     let stays = and_parts (list_all (λ k. leb k (length rest)) (ways s)) (inside rest) h in
     let near : k ≤ length rest = leb-true k (length rest) (pass_in (λ k. leb k (length rest)) (ways s) k q.1 stays.0) in
     let on_it : Way task (i + 1 + k) (π ++ s ∷ []) = on (subst (λ j. Way task j π) (omega arith) w) st k q.1 refl in
-    rw p.2 (subst (Way task (length task)) (push π s p.0) (way_on task (i + 1) k rest (π ++ s ∷ []) p.0 (omega arith) left stays.1 near on_it q.2))
+    rw p.2 (subst (Way task (length task)) (append_assoc π (s ∷ []) p.0) (way_on task (i + 1) k rest (π ++ s ∷ []) p.0 (omega arith) left stays.1 near on_it q.2))
 
 -- the ways to the end of a task are its paths
 pub paths_are_ways : (task : List Statement) → inside task ≡ true → (π : List Statement) → π ∈ paths 0 task → Way task (length task) π

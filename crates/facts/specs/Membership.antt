@@ -2,10 +2,10 @@
 -- its contracts.
 use mathlib.Core.HLevel.{is_prop→PathP}
 use native.Mathlib.Bridge.{le_prop}
-use Rattle.std.proofs.Common.{◌≡◌, ℕ, zero, suc, ◌+◌, ◌<◌, ◌^◌, Bool, true, false, cond, not, ◌&&◌, ◌||◌, eqb, map, get_or, sym, refl, ap, ◌∙◌, inl, inr, arith}
-use Rattle.std.specs.List.{range_with_len}
+use Rattle.std.proofs.Common.{◌≡◌, ℕ, ◌<◌, ◌^◌, Bool, true, false, cond, not, ◌&&◌, ◌||◌, eqb, map, get_or, sym, refl, ap, ◌∙◌, inl, inr, arith}
 use Rattle.std.proofs.lemmas.Bool.{cases_Bool, eqb-true, eqb-false}
 use Rattle.std.specs.Int.{bit_at}
+use Rattle.std.proofs.lemmas.List.FromFn.{get_or-map-range_with_len}
 use Rattle.std.proofs.lemmas.Simd.{bit_mask_l}
 use Rattle.std.proofs.lemmas.Nat.Bits.{same_from_bits_below, bit_at-lt}
 use Rattle.facts.specs.declared.set.VariableSet.{VariableSet}
@@ -15,18 +15,13 @@ use Rattle.facts.specs.Sets.{variables, has, set_of, union, intersection, differ
 pub same_bits : (a b : VariableSet) → a.bits ≡ b.bits → a ≡ b
 same_bits a b e = λ i. record { bits = e i; known = is_prop→PathP (λ j. e j < 2 ^ 48) (λ j. le_prop) a.known b.known i }
 
-mapped_range : (test : ℕ → Bool) (n a i : ℕ) → i < n → get_or (map test (range_with_len a n)) i false ≡ test (a + i)
-mapped_range test zero a i l = absurd (omega arith)
-mapped_range test (suc n) a zero l = ap test (omega arith)
-mapped_range test (suc n) a (suc i) l = mapped_range test n (a + 1) i (omega arith) ∙ ap test (omega arith)
-
 bit_from : (b : Bool) → eqb (cond b 1 0) 1 ≡ b
 bit_from true = refl
 bit_from false = refl
 
 -- the members of the set of a test
 pub has_of : (test : ℕ → Bool) (v : ℕ) → v < 48 → has (set_of test) v ≡ test v
-has_of test v l = ap (λ x. eqb x 1) (bit_mask_l (map test variables) v) ∙ bit_from (get_or (map test variables) v false) ∙ mapped_range test 48 0 v l ∙ ap test (omega arith)
+has_of test v l = ap (λ x. eqb x 1) (bit_mask_l (map test variables) v) ∙ bit_from (get_or (map test variables) v false) ∙ get_or-map-range_with_len test 0 48 v v false l (omega arith)
 
 module _ (a b : VariableSet) (v : ℕ) (l : v < 48) where
   pub has_union : has (union a b) v ≡ (has a v || has b v)

@@ -115,12 +115,12 @@ unlogged_unread task v π is_path w unlogged =
     ]
 
 -- a test that passes at some element of a list
-any_from : {A : Type 0} (p : A → Bool) (x : A) (xs : List A) → x ∈ xs → p x ≡ true → list_any p xs ≡ true
+pub any_from : {A : Type 0} (p : A → Bool) (x : A) (xs : List A) → x ∈ xs → p x ≡ true → list_any p xs ≡ true
 any_from p x [] h t = absurd h
 any_from p x (y ∷ ys) (inl e) t = or_left _ _ (ap p (sym e) ∙ t)
 any_from p x (y ∷ ys) (inr h) t = or_right _ _ (any_from p x ys h t)
 
-any_to : {A : Type 0} (p : A → Bool) (xs : List A) → list_any p xs ≡ true → (x : A) × (x ∈ xs) × (p x ≡ true)
+pub any_to : {A : Type 0} (p : A → Bool) (xs : List A) → list_any p xs ≡ true → (x : A) × (x ∈ xs) × (p x ≡ true)
 any_to p [] h = absurd (false≢true h)
 any_to p (y ∷ ys) h =
     elim (or_cases (p y) (list_any p ys) h) [

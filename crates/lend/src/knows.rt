@@ -2,6 +2,7 @@
 use crate::tell::VARIABLES;
 use facts::kind::Kind;
 use facts::most::Counts;
+use facts::pass::LEAST_SCRATCH;
 use facts::set::VariableSet;
 use facts::tasks::facts_of;
 use facts::touched::Touched;
@@ -30,11 +31,11 @@ impl fmt::Display for Names {
 }
 
 pub(crate) fn tell(rt: &impl Print, program: &Program) -> anyhow::Result<()> {
-    let mut touched = [Touched.start(); 64];
+    let mut touched = [Touched.start(); LEAST_SCRATCH];
     let mut most = [Counts {
         emits: 0,
         direct: 0,
-    }; 64];
+    }; LEAST_SCRATCH];
     let facts = facts_of(program, Task::new(0).unwrap(), &mut touched, &mut most)?;
     println!(rt;
         "Task a logs {}, emits at most {} and sets at most {} directly, so that a visit takes at most {} stores and {} steps.",
