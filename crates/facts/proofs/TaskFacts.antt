@@ -43,8 +43,8 @@ most_found logged p t = passed_as no_counts (most_right logged (task_of (program
 
 -- both together
 
-task_facts : (task : List Statement) (t : Touches) (c : Counts) → IsTouched task t → IsMost (has t.logged) task c → IsTaskFacts task (record { logged = t.logged; emits = c.emits; direct = c.direct })
-task_facts task t c touched most =
+pub both_right : (task : List Statement) (t : Touches) (c : Counts) → IsTouched task t → IsMost (has t.logged) task c → IsTaskFacts task (record { logged = t.logged; emits = c.emits; direct = c.direct })
+both_right task t c touched most =
     let sets : t.logged ≡ set_of (logged_test task) = ap (λ x. x.logged) touched.sets in
     let same : (v : ℕ) → v < 48 → has t.logged v ≡ logged_test task v = λ v l. ap (λ s. has s v) sets ∙ has_of (logged_test task) v l in
     let counts : c ≡ most_of_task task = most.counts ∙ most_over_same (has t.logged) (logged_test task) same task in
@@ -60,4 +60,4 @@ task_facts task t c touched most =
 pub both_found : (task : List Statement) (touches touches′ : List Touches) (counts counts′ : List Counts) (t : Touches) (c : Counts)
     → Passed untouched (IsTouched task) touches (Ok t) touches′ → Passed no_counts (IsMost (has t.logged) task) counts (Ok c) counts′
     → Found task touches counts (Ok (record { logged = t.logged; emits = c.emits; direct = c.direct })) touches′ counts′
-both_found task touches touches′ counts counts′ t c p q = (p.0, q.0, task_facts task t c p.1 q.1, p.2, q.2)
+both_found task touches touches′ counts counts′ t c p q = (p.0, q.0, both_right task t c p.1 q.1, p.2, q.2)

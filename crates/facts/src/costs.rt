@@ -5,7 +5,7 @@ ghost use Rattle.facts.specs.Bounds.{steps_of, stores_of};
 use crate::set::VariableSet;
 
 // What a task logs, and the most of what its paths emit and store.
-#[derive(Clone, Copy, PartialEq, Eq, Debug)]
+#[derive(Clone, Copy, PartialEq, Eq, Default, Debug)]
 pub struct TaskFacts {
     pub logged: VariableSet,
     // the most emits on a path

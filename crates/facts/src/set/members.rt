@@ -71,3 +71,12 @@ impl VariableSet {
         self.bits.count_ones() as u8
     }
 }
+
+// The set without members.
+impl Default for VariableSet {
+    ghost is_default = { λ set. set ≡ empty };
+
+    fn default() -> VariableSet {
+        VariableSet::empty()
+    }
+}
