@@ -1,0 +1,3 @@
+-- The definitions of what the passes over a text come to.
+pub mod Passes
+pub mod Compiling
