@@ -1,0 +1,8 @@
+-- Bytes: so many are written.
+use Rattle.std.proofs.Common.{take}
+use Rattle.std.specs.Fmt.{HasWritten, IsPlainFormatter}
+use Rattle.fit.specs.Printed.{shown}
+use Rattle.fit.proofs.shown.ShownDisplay.fmt.Given as goal
+
+abbrev pub invariant-loop-byte : goal.invariant-loop-byte
+invariant-loop-byte g l = IsPlainFormatter l.initial.f → HasWritten g.W.Write.write_str_gives l.initial.f (shown (take l.byte-index l.self.0.now)) l.f
