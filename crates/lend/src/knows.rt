@@ -1,28 +1,27 @@
-// What is known of the rule's task before any visit: what it logs, and what a visit can cost.
-use crate::tell::VARIABLES;
-use facts::kind::Kind;
-use facts::most::Counts;
-use facts::pass::LEAST_SCRATCH;
+// What is known of the rule's tasks before any visit: what they log, and what a visit can cost.
+use crate::tell::Name;
+use compile::compile::Compiled;
 use facts::set::VariableSet;
-use facts::tasks::facts_of;
-use facts::touched::Touched;
-use program::program::Program;
 use program::statement::{Task, Variable};
+use rules::rules::bounds::bounds;
 use std::fmt;
 
 // The names of a set's variables, with blanks between them.
 #[derive(Clone, Copy)]
-struct Names(VariableSet);
+struct Listed<'a, 't> {
+    set: VariableSet,
+    names: &'a [&'t [u8]],
+}
 
-impl fmt::Display for Names {
+impl fmt::Display for Listed<'_, '_> {
     fn fmt<W: fmt::Write>(&self, f: &mut fmt::Formatter<W>) -> fmt::Result {
         let mut blank = "";
-        for (number, name) in VARIABLES.iter().enumerate() {
-            let Some(variable) = Variable::new(number as u8) else {
+        for (number, &name) in self.names.iter().enumerate() {
+            let Some(variable) = u8::try_from(number).ok().and_then(Variable::new) else {
                 continue;
             };
-            if self.0.contains(variable) {
-                write!(f, "{blank}{name}")?;
+            if self.set.contains(variable) {
+                write!(f, "{blank}{}", Name(name))?;
                 blank = " ";
             }
         }
@@ -30,20 +29,28 @@ impl fmt::Display for Names {
     }
 }
 
-pub(crate) fn tell(rt: &impl Print, program: &Program) -> anyhow::Result<()> {
-    let mut touched = [Touched.start(); LEAST_SCRATCH];
-    let mut most = [Counts {
-        emits: 0,
-        direct: 0,
-    }; LEAST_SCRATCH];
-    let facts = facts_of(program, Task::new(0).unwrap(), &mut touched, &mut most)?;
-    println!(rt;
-        "Task a logs {}, emits at most {} and sets at most {} directly, so that a visit takes at most {} stores and {} steps.",
-        Names(facts.logged),
-        facts.emits,
-        facts.direct,
-        facts.most_stores(),
-        facts.most_steps()
-    )?;
+pub(crate) fn tell(rt: &impl Print, compiled: &Compiled<'_>) -> anyhow::Result<()> {
+    let Compiled { rules, names } = compiled;
+    for (number, &name) in names.tasks().iter().enumerate() {
+        let Some(facts) = u8::try_from(number)
+            .ok()
+            .and_then(Task::new)
+            .and_then(|task| rules.facts(task))
+        else {
+            continue;
+        };
+        println!(rt;
+            "Task {} logs {}, emits at most {} and sets at most {} directly.",
+            Name(name),
+            Listed {
+                set: facts.logged,
+                names: names.variables()
+            },
+            facts.emits,
+            facts.direct
+        )?;
+    }
+    let (stores, steps) = bounds(rules);
+    println!(rt; "So a visit takes at most {stores} stores and {steps} steps.")?;
     Ok(())
 }

@@ -3,6 +3,7 @@
 
 use crate::keep::Kept;
 use crate::tell::Told;
+use grammar::names::Names;
 use plain::machine::Machine;
 use plain::visit::Visit;
 use std::{fmt, io};
@@ -32,11 +33,12 @@ impl fmt::Display for Spaced<'_> {
 }
 
 // Each statement that the visit comes to, with the values that it reads and writes.
-fn trace(rt: &impl Print, mut visit: Visit<'_>) -> io::Result<()> {
+fn trace(rt: &impl Print, mut visit: Visit<'_>, names: &Names<'_>) -> io::Result<()> {
     while let Some(statement) = visit.statement() {
         let told = Told {
             statement,
             visit: &visit,
+            names,
         };
         println!(rt; "  {told}")?;
         visit.step();
@@ -45,16 +47,18 @@ fn trace(rt: &impl Print, mut visit: Visit<'_>) -> io::Result<()> {
 }
 
 fn run(rt: &impl Print) -> anyhow::Result<()> {
-    let program = rule::due_date()?;
     println!(rt; "The rule of due dates: a loan is due 14 days after the day of the visit.")?;
-    println!(rt; "Variables due = 0 and n = 5, local t, task a.")?;
-    knows::tell(rt, &program)?;
-    let mut machine = Machine::new(&program);
+    for line in rule::TEXT.lines() {
+        println!(rt; "  {line}")?;
+    }
+    let compiled = rule::due_date()?;
+    knows::tell(rt, &compiled)?;
+    let mut machine = Machine::new(compiled.rules.program());
     println!(rt;
         "Visit 0 with row {} on the plain machine, task a:",
         Spaced(&ROW)
     )?;
-    trace(rt, machine.begin(&ROW)?)?;
+    trace(rt, machine.begin(&ROW)?, &compiled.names)?;
     machine.visit(&ROW)?;
     show(rt, &machine)
 }
