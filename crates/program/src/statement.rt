@@ -3,6 +3,8 @@ ghost use Rattle.std.specs.Prelude.{◌≡◌, ◌<◌, ◌≤◌, MatchOption};
 
 use std::fmt;
 
+pub mod arithmetic;
+
 // One of at most N things of a kind, by its number in the order of their declarations. Seen as a number by a model it
 // would be no plainer to use: an enum that holds a value with a model cannot be passed by value twice in proved code.
 #[derive(Clone, Copy, PartialEq, Eq, Debug)]

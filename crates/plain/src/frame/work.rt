@@ -2,37 +2,13 @@
 ghost use Rattle.std.specs.Prelude.{◌≡◌, ◌+◌, ◌≤◌, [], length};
 ghost use Rattle.words.specs.Lists.{items};
 ghost use Rattle.program.specs.Shapes.{emits};
-ghost use Rattle.program.specs.Runs.{value, result_of, compares, holds, assign, after, passes};
+ghost use Rattle.program.specs.Runs.{value, holds, assign, after, passes};
 ghost use Rattle.plain.specs.Frames.{run_of};
 ghost use Rattle.plain.specs.Plain.{begun};
 
 use crate::frame::Frame;
-use program::statement::{Comparison, Next, Operand, Operator, Statement, Target, Test};
+use program::statement::{Next, Operand, Statement, Target, Test};
 use words::list::Words;
-
-// The operator's result. Sum and difference wrap; a divisor 0 gives 0.
-fn calculate(operator: Operator, left: u16, right: u16) -> u16
-    ensures { result ≡ result_of operator left right }
-{
-    match operator {
-        Operator::Plus => left.wrapping_add(right),
-        Operator::Minus => left.wrapping_sub(right),
-        Operator::And => left & right,
-        Operator::Or => left | right,
-        Operator::Xor => left ^ right,
-        Operator::Quotient => left.checked_div(right).unwrap_or(0),
-        Operator::Remainder => left.checked_rem(right).unwrap_or(0),
-    }
-}
-
-fn compare(comparison: Comparison, left: u16, right: u16) -> bool
-    ensures { result ≡ compares comparison left right }
-{
-    match comparison {
-        Comparison::Equal => left == right,
-        Comparison::Less => left < right,
-    }
-}
 
 impl Frame {
     // What a visit begins with: the locals 0, the record empty.
@@ -62,11 +38,8 @@ impl Frame {
     fn holds(&self, test: Test) -> bool
         ensures { result ≡ holds (run_of self.now) test }
     {
-        compare(
-            test.comparison,
-            self.value(test.left),
-            self.value(test.right),
-        )
+        test.comparison
+            .compares(self.value(test.left), self.value(test.right))
     }
 
     fn assign(&mut self, target: Target, word: u16)
@@ -101,7 +74,7 @@ impl Frame {
                 operator,
                 right,
             } => {
-                let word = calculate(operator, self.value(left), self.value(right));
+                let word = operator.result(self.value(left), self.value(right));
                 self.assign(target, word);
             }
             Statement::Emit(operand) => {
