@@ -55,7 +55,7 @@ abbrev pub Adds : Declared → Line → Source → Result (Unit {0}) Refusal →
 Adds d l p (Ok _) q = (line_read d l ≡ None) × (q ≡ adds d p l)
 Adds d l p (Err e) q = line_read d l ≡ Some e
 
--- The program of the lines, which declare so much; or the first name of a task that is none.
+-- The program that the lines say; or their first name of a task that is none.
 abbrev pub Says : List (List Tok) → Result Draft Refusal → Type 0
 Says lines (Ok draft) = (first_line (name_round (forms_of lines)) [] lines ≡ None) × (program.source_of draft ≡ source_of (forms_of lines))
 Says lines (Err e) = first_line (name_round (forms_of lines)) [] lines ≡ Some e
