@@ -2,5 +2,6 @@
 pub mod Enough
 pub mod Filled
 pub mod Logging
+pub mod Offences
 pub mod Standing
 pub mod Tasks

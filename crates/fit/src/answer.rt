@@ -10,6 +10,7 @@ use facts::pass::LEAST_SCRATCH;
 use facts::touched::Touched;
 
 // Compiles a text.
+#[tactic(auto, using(crate::proofs::Offences::told_in_text))]
 pub(crate) fn answer(text: &[u8]) -> Result<Accepted<'_>, Refused<'_>>
     ensures { Answers text.now result }
 {

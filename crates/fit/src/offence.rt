@@ -3,7 +3,7 @@ ghost use Rattle.std.specs.Prelude.{◌≡◌, ◌++◌, ◌∷◌};
 ghost use Rattle.std.specs.Fmt.{WritesOnOk};
 ghost use Rattle.text.specs.Refusals.{told_of};
 ghost use Rattle.fit.specs.Printed.{mark_text};
-ghost use Rattle.fit.specs.Answers.{IsMarked};
+ghost use Rattle.fit.specs.Answers.{IsInText, IsMarked};
 
 use crate::line::{Marked, line_at};
 use crate::sentence::sentence;
@@ -35,7 +35,9 @@ pub(crate) struct Refused<'t> {
 }
 
 // The line of an offence, if one is meant.
+#[tactic(auto, unfolding(crate::specs::Answers::IsInText))]
 fn mark_of(text: &[u8], told: Told) -> Option<Marked<'_>>
+    requires { IsInText text.now told }
     ensures { IsMarked text.now told result }
 {
     if told.line == 0 {
@@ -47,6 +49,7 @@ fn mark_of(text: &[u8], told: Told) -> Option<Marked<'_>>
 impl<'t> Refused<'t> {
     // A refusal of a text.
     pub(crate) fn new(text: &'t [u8], refusal: Refusal) -> Refused<'t>
+        requires { IsInText text.now (told_of refusal) }
         ensures told { result.told ≡ told_of refusal }
         ensures marked { IsMarked text.now (told_of refusal) result.marked }
     {
