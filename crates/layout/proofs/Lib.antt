@@ -1,0 +1,3 @@
+-- Proofs about the log.
+pub mod Chains
+pub mod Computed
