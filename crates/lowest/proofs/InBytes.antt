@@ -1,9 +1,9 @@
 -- The words that lie in bytes: how many there are, each of them, and all of them once one is put.
-use Rattle.std.proofs.Common.{◌≡◌, ℕ, ◌+◌, ◌*◌, ◌/◌, ◌%◌, ◌^◌, ◌<◌, ◌≤◌, true, ◌≢◌, List, [], ◌∷◌, length, get_or, set, sym, ap, ◌∙◌, subst, ⊎_elim, arith, length-set}
+use Rattle.std.proofs.Common.{◌≡◌, ℕ, ◌+◌, ◌*◌, ◌/◌, ◌%◌, ◌^◌, ◌<◌, ◌≤◌, true, ◌≢◌, List, [], ◌∷◌, length, get_or, set, refl, sym, ap, ◌∙◌, subst, ⊎_elim, arith, length-set}
 use Rattle.std.proofs.lemmas.List.FromFn.{length-map-range_with_len, get_or-map-range_with_len}
 use Rattle.std.proofs.lemmas.List.{ext_get_or, get_or_past, get_or-set_other, get_or-set_same, set_past}
-use Rattle.std.proofs.lemmas.Bool.{cases_eq, eqb-true}
-use Rattle.lowest.specs.Image.{EachByte, WordsTellBytes, none_over, with_word, word_at, words_in}
+use Rattle.std.proofs.lemmas.Bool.{cases_eq, cond_above, cond_below, eqb-true}
+use Rattle.lowest.specs.Image.{EachByte, WordsTellBytes, none_over, put_in, with_word, word_at, words_in}
 
 module _ (bytes : List ℕ) where
   pub length_words : length (words_in bytes) ≡ length bytes / 2
@@ -60,8 +60,22 @@ module _ (bytes : List ℕ) (p w : ℕ) (h : p < length bytes / 2) where
       (cases_eq k p))
 
 -- a word's two bytes put, low byte first
-pub words_put : (bytes two : List ℕ) (p w : ℕ) → p < length bytes / 2 → w < 2 ^ 16 → two ≡ (w % 256) ∷ (w / 256 % 256) ∷ [] → words_in (set (set bytes (2 * p) (get_or two 0 0)) (2 * p + 1) (get_or two 1 0)) ≡ set (words_in bytes) p w
-words_put bytes two p w h fits e = let high : w / 256 % 256 ≡ w / 256 = omega arith in rw (e, high) (words_with bytes p w h)
+module _ (bytes two : List ℕ) (p w : ℕ) (h : p < length bytes / 2) (fits : w < 2 ^ 16) (e : two ≡ (w % 256) ∷ (w / 256 % 256) ∷ []) where
+  -- the bytes once both are put
+  abbrev both_put : List ℕ
+  both_put = set (set bytes (2 * p) (get_or two 0 0)) (2 * p + 1) (get_or two 1 0)
+
+  with_both : both_put ≡ with_word bytes p w
+  with_both = let high : w / 256 % 256 ≡ w / 256 = omega arith in rw (e, high) refl
+
+  pub words_put : words_in both_put ≡ set (words_in bytes) p w
+  words_put = ap words_in with_both ∙ words_with bytes p w h
+
+  pub bytes_put : both_put ≡ put_in bytes p w
+  bytes_put = with_both ∙ cond_below p (length bytes / 2) (with_word bytes p w) bytes h
+
+pub put_past_bytes : (bytes : List ℕ) (p w : ℕ) → length bytes / 2 ≤ p → bytes ≡ put_in bytes p w
+put_past_bytes bytes p w h = cond_above p (length bytes / 2) (with_word bytes p w) bytes bytes h refl
 
 -- words that are equal have equal bytes
 module _ (xs ys : List ℕ) (even : none_over xs ≡ true) (also : none_over ys ≡ true) (small : EachByte xs) (each : EachByte ys) (same : words_in xs ≡ words_in ys) where

@@ -3,7 +3,7 @@ use Rattle.std.specs.Prelude.{◌≡◌, ℕ, true, false, List, [], ◌∷◌, 
 use Rattle.memory.specs.declared.doubt.Doubt.{Doubt}
 use Rattle.memory.specs.declared.fault.Fault.TheVariants as fault
 use Rattle.memory.specs.Value.{Kind, Value, read_of, write_answer, written}
-use Rattle.lowest.specs.Image.{none_over, with_word, words_in}
+use Rattle.lowest.specs.Image.{none_over, put_in, with_word, words_in}
 use Rattle.lowest.specs.Lowest.{held_after, left_in_image, left_in_words, lowest_kind, lowest_value, makeable}
 
 -- three words, in a list and in bytes
@@ -35,6 +35,9 @@ pub record ExamplesHold : Type 0 where
   pub byte_over : words_in (1 ∷ 2 ∷ 255 ∷ []) ≡ 513 ∷ []
   pub put_in_bytes : with_word three_in_bytes 1 258 ≡ 4 ∷ 0 ∷ 2 ∷ 1 ∷ 255 ∷ 255 ∷ []
   pub put_and_read : words_in (with_word three_in_bytes 1 258) ≡ 4 ∷ 258 ∷ 65535 ∷ []
+  -- a byte over stays, beside a word and where no word is
+  pub put_beside : put_in (1 ∷ 2 ∷ 255 ∷ []) 0 258 ≡ 2 ∷ 1 ∷ 255 ∷ []
+  pub put_past : put_in (1 ∷ 2 ∷ 255 ∷ []) 1 258 ≡ 1 ∷ 2 ∷ 255 ∷ []
   -- a cut leaves the new word in plain words if the scrap is odd, and the scrap in an image
   pub odd_scrap : left_in_words 7 513 9 ≡ 9
   pub even_scrap : left_in_words 6 513 9 ≡ 513

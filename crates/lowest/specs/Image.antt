@@ -1,5 +1,5 @@
 -- Words that lie in bytes.
-use Rattle.std.specs.Prelude.{◌≡◌, ℕ, ◌+◌, ◌*◌, ◌/◌, ◌%◌, ◌<◌, Bool, true, List, map, length, ◌==◌, slice_index, slice_set}
+use Rattle.std.specs.Prelude.{◌≡◌, ℕ, ◌+◌, ◌*◌, ◌/◌, ◌%◌, ◌<◌, Bool, true, cond, List, map, length, ◌==◌, nat_lt, slice_index, slice_set}
 use Rattle.std.specs.List.{range_with_len}
 
 -- the word at place p: byte 2p is its low part, byte 2p + 1 its high part
@@ -8,6 +8,10 @@ word_at bytes p = slice_index bytes (2 * p) + 256 * slice_index bytes (2 * p + 1
 
 abbrev pub with_word : List ℕ → ℕ → ℕ → List ℕ
 with_word bytes p w = slice_set (slice_set bytes (2 * p) (w % 256)) (2 * p + 1) (w / 256)
+
+-- the bytes once a word is put at a place: its two bytes, and no other; past the last word all stay
+abbrev pub put_in : List ℕ → ℕ → ℕ → List ℕ
+put_in bytes p w = cond (nat_lt p (length bytes / 2)) (with_word bytes p w) bytes
 
 -- all words; a byte over is no part of one
 abbrev pub words_in : List ℕ → List ℕ

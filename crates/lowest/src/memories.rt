@@ -42,10 +42,14 @@ impl<B: Backing> Lowest<B> {
         })
     }
 
-    // The place as the buffer counts it, or why the memory refuses it.
+    // The place as the buffer counts it, or why the memory refuses it. A dark memory does not ask for the length, which a
+    // buffer may have to count.
     fn reach(&self, place: u16) -> Result<usize, Fault>
         ensures { Reaches B.Backing self.now place result }
     {
+        if let Light::Dark(_) = self.light {
+            return Err(Fault::Dark);
+        }
         self.light.reach(place, self.backing.len())?;
         Ok(usize::from(place))
     }

@@ -49,6 +49,11 @@ module _ {M : Type 0} (memory : Ghosts M) where
   abbrev pub MendsBelow : ThreeCell M → ℕ → Result (Unit {0}) Fault → ThreeCell M → Type 0
   MendsBelow m charge r after = memory.lawful m.below → MendsAll (below_seen m) charge r (below_seen after)
 
+  -- The light after a relight: lit, or dark with the word in doubt that was so before. Lawful or not.
+  abbrev pub LightAfter : ThreeCell M → Result (Unit {0}) Fault → ThreeCell M → Type 0
+  LightAfter m (Ok u) after = is_lit after.light ≡ true
+  LightAfter m (Err e) after = (is_lit after.light ≡ false) × (doubt_of after.light ≡ doubt_of m.light)
+
   -- making: lit, or dark with a word in doubt; or the memory below is handed back, with the reason
   abbrev pub Makes : M → Result (ThreeCell M) (Unfit M) → Type 0
   Makes below (Ok m) = (m.below ≡ below) × (is_lit m.light ≡ not (is_some (doubt_of m.light))) × (memory.lawful below → (made_over (memory.seen below) ≡ Ok (doubt_of m.light)) × three_lawful m)

@@ -1,7 +1,7 @@
 // The three-cell memory: over any memory, and a memory itself.
 ghost use Rattle.std.specs.Prelude.{◌≡◌, ◌*◌, ◌^◌, ◌<◌, length};
 ghost use Rattle.three_cell.specs.Below.{KeepsScrap, RelightsAll};
-ghost use Rattle.three_cell.specs.Layered.{MendsBelow, Reaches, RelightsThree, StoresBelow, Writes, limits_kept, three_given, three_lawful, three_seen};
+ghost use Rattle.three_cell.specs.Layered.{LightAfter, MendsBelow, Reaches, RelightsThree, StoresBelow, Writes, limits_kept, three_given, three_lawful, three_seen};
 
 use crate::site::Site;
 use memory::doubt::Doubt;
@@ -31,11 +31,14 @@ fn recover<M: Memory>(below: &mut M, charge: u32, scrap: u16) -> Result<(), Rais
 }
 
 impl<M: Memory> ThreeCell<M> {
-    // Where the cells of a word lie, or why the memory refuses its place.
+    // Where the cells of a word lie, or why the memory refuses its place. A dark memory asks those below for nothing.
     #[tactic(auto, using(cells::specs::Members::length_three_words))]
     fn reach(&self, place: u16) -> Result<Site, Fault>
         ensures { three_lawful M.Memory self.now → Reaches M.Memory self.now place result }
     {
+        if let Light::Dark(_) = self.light {
+            return Err(Fault::Dark);
+        }
         self.light.reach(place, usize::from(self.len()))?;
         Ok(Site { place })
     }
@@ -99,8 +102,10 @@ impl<M: Memory> Memory for ThreeCell<M> {
         Ok(())
     }
 
-    // Beyond what every memory promises: the memory below is relit, and all words are mended. Dark until that is done.
+    // Beyond what every memory promises: the memory below is relit, and all words are mended. Dark until that is done, with
+    // what is in doubt as it was.
     fn relight(&mut self, charge: u32, scrap: u16) -> Result<(), Fault>
+        ensures light { LightAfter M.Memory self.old result self.new }
         ensures relit { RelightsThree M.Memory self.old charge result self.new }
         ensures scrap { three_given M.Memory self.new scrap }
         ensures below { MendsBelow M.Memory self.old charge result self.new }

@@ -67,7 +67,8 @@ impl Site {
     }
 
     // Stores a word to B, then to C. That a store keeps the scrap is told by each call: it is a fact of the memory before
-    // and after, and no type has both.
+    // and after, and no type has both. Inlined: a store of a word is a quarter fewer instructions so.
+    #[inline]
     fn store_both<M: Memory>(self, below: &mut M, word: u16) -> Result<(), Raised>
         ensures stores { Stores M.Memory below.old self.place (to_both word) result below.new }
         ensures scrap { KeepsScrap M.Memory below.old below.new }

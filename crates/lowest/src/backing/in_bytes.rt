@@ -1,6 +1,6 @@
 // Bytes as a buffer: the word at place p has its low part in byte 2p and its high part in byte 2p + 1.
-ghost use Rattle.std.specs.Prelude.{false};
-ghost use Rattle.lowest.specs.Image.{none_over, words_in};
+ghost use Rattle.std.specs.Prelude.{◌≡◌, false, slice_set};
+ghost use Rattle.lowest.specs.Image.{none_over, put_in, words_in};
 ghost use Rattle.lowest.specs.Lowest.{left_in_image};
 ghost use Rattle.lowest.specs.Members.{left_in_image_allowed};
 
@@ -46,8 +46,14 @@ impl<'a> Backing for Bytes<'a> {
         }
     }
 
-    #[tactic(auto, using(crate::proofs::InBytes::words_put, crate::proofs::InBytes::put_past_words))]
-    fn put(&mut self, place: usize, word: u16) {
+    // Beyond what every buffer promises: which bytes it puts, so that all others stay, one over too.
+    #[tactic(auto, using(crate::proofs::InBytes::words_put, crate::proofs::InBytes::put_past_words, crate::proofs::InBytes::bytes_put, crate::proofs::InBytes::put_past_bytes))]
+    fn put(&mut self, place: usize, word: u16)
+        ensures bytes { self.new.0.now ≡ put_in self.old.0.now place word }
+        ensures words { words_in self.new.0.now ≡ slice_set (words_in self.old.0.now) place word }
+        ensures same { self.new.0.ghost_name ≡ self.old.0.ghost_name }
+        ensures even { none_over self.new.0.now ≡ none_over self.old.0.now }
+    {
         if place < self.0.len() / 2 {
             let [low, high] = word.to_le_bytes();
             self.0[2 * place] = low;
