@@ -2,6 +2,8 @@
 #![tactic(auto)]
 
 #[cfg(test)]
+mod dark;
+#[cfg(test)]
 mod layers;
 #[cfg(test)]
 mod lowest_cuts;
